@@ -1,7 +1,7 @@
 -- An event's coordinates and its three bytes: document 01, Debounce, last sentence.
 -- Assumes nothing.
 use Prim.Native.Nat.{ℕ}
-use mathlib.Core.Bool.{Bool, true, false}
+use mathlib.Core.Bool.{cond}
 use mathlib.Core.List.{List, [], _∷_}
 use lib.Dec.{eqb}
 use lib.ListN.{getD}
@@ -20,13 +20,9 @@ abbrev pub bytesOf : Event → List ℕ
 bytesOf (Release i j) = 0 ∷ i ∷ j ∷ []
 bytesOf (Press i j) = 1 ∷ i ∷ j ∷ []
 
-abbrev pick : Bool → Read → Read → Read
-pick true a b = a
-pick false a b = b
-
 -- the event of a first byte, row and column; another first byte is no event
 abbrev pub readAs : ℕ → ℕ → ℕ → Read
-readAs kind i j = pick (eqb kind 0) (read.Event (Release i j)) (pick (eqb kind 1) (read.Event (Press i j)) read.Nothing)
+readAs kind i j = cond (eqb kind 0) (read.Event (Release i j)) (cond (eqb kind 1) (read.Event (Press i j)) read.Nothing)
 
 abbrev pub readOf : List ℕ → Read
 readOf bytes = readAs (getD bytes 0 0) (getD bytes 1 0) (getD bytes 2 0)
