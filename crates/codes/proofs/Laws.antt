@@ -15,7 +15,7 @@ use Rattle.codes.specs.Codes.{modifier, modifierBit}
 use Rattle.codes.specs.Report.{freePlace, filled, placed, keyed, pressedOf, withCodes}
 
 -- both halves of a test that holds
-both-true : (a b : Bool) → a && b ≡ true → (a ≡ true) × (b ≡ true)
+pub both-true : (a b : Bool) → a && b ≡ true → (a ≡ true) × (b ≡ true)
 both-true true b e = (refl, e)
 both-true false b e = let z : _≡_ {A = Bool} false true = e in (e, cc)
 
@@ -25,6 +25,11 @@ unfolding modifier
 modifier-range code e =
     let h = both-true (leb 0xE0 code) (leb code 0xE7) e in
     (leb-true 0xE0 code (h .0), leb-true code 0xE7 (h .1))
+
+-- and a code between them is one
+pub modifier-in : (code : ℕ) → 0xE0 ≤ code → code ≤ 0xE7 → modifier code ≡ true
+unfolding modifier
+modifier-in code l h = rw (le-leb 0xE0 code l, le-leb code 0xE7 h)
 
 -- the first two bytes, by their places
 pub front : (l : List ℕ) → 2 ≤ length l → take 2 l ≡ getD l 0 0 ∷ getD l 1 0 ∷ []

@@ -1,2 +1,5 @@
 pub mod Laws
+pub mod Modifiers
+pub mod Six
+pub mod Hid111
 pub mod Unique

@@ -1,2 +1,4 @@
 pub mod Codes
 pub mod Report
+pub mod Lists
+pub mod Hid111

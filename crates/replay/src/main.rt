@@ -3,6 +3,7 @@
 // Assumes nothing.
 mod out;
 mod words;
+
 use codes::KbHidReport;
 use libc::STDIN_FILENO;
 use words::Hex;
