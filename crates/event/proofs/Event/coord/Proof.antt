@@ -1,15 +1,13 @@
 -- `event::Event::coord` meets its contract: each arm knows which variant the event is. Assumes nothing.
-use mathlib.Core.Path.{sym, ap}
 use borrow.Author.Needs.{needs}
-use Rattle.event.specs.Bytes.{coordOf}
 use Rattle.event.proofs.Event.coord.Statement.{statement}
 use Rattle.event.proofs.Event.coord.Tie as tie
 
 returns : tie.Need-returns
-returns c = sym (ap coordOf (c .before .self .given .1))
+returns c = rw (c .before .self .given .1)
 
 returns-2 : tie.Need-returns-2
-returns-2 c = sym (ap coordOf (c .before .self2 .given .1))
+returns-2 c = rw (c .before .self2 .given .1)
 
 pub coord-spec : {M : Type 1} → statement M
 coord-spec = tie.close (tie.spec (λ c. search needs) (λ c. search needs) returns returns-2)
