@@ -1,0 +1,90 @@
+//! One side of a comparison: a child process that is given a script and whose answers are kept whole, and
+//! the first difference between two sides' answers.
+//!
+//! Assumes: nothing of the child; a wrong number of answers, a bad exit status and an answer without its
+//! newline are all differences.
+
+use std::io::{self, Read, Write};
+use std::process::{Command, ExitStatus, Stdio};
+
+pub struct Answers {
+    bytes: Vec<u8>,
+    status: ExitStatus,
+}
+
+/// Where two sides differ first: the line, counted from 0, and what each has there.
+pub struct Difference {
+    pub line: usize,
+    pub ours: String,
+    pub oracle: String,
+}
+
+/// Runs a command over an input. Its standard error is shown if `loud`. The input is written by a thread of
+/// its own, since a child that answers while it reads would otherwise wait for us and we for it.
+pub fn run(command: &[String], input: &[u8], loud: bool) -> io::Result<Answers> {
+    let said = if loud {
+        Stdio::inherit()
+    } else {
+        Stdio::null()
+    };
+    let mut child = Command::new(&command[0])
+        .args(&command[1..])
+        .stdin(Stdio::piped())
+        .stdout(Stdio::piped())
+        .stderr(said)
+        .spawn()
+        .map_err(|error| io::Error::new(error.kind(), format!("{}: {error}", command[0])))?;
+    let mut to_child = child.stdin.take().expect("the child's input is piped");
+    let mut from_child = child.stdout.take().expect("the child's output is piped");
+    let mut bytes = Vec::new();
+    std::thread::scope(|scope| {
+        // a child may end before it has read everything: its answers or its status tell
+        scope.spawn(move || drop(to_child.write_all(input)));
+        from_child.read_to_end(&mut bytes)
+    })?;
+    let status = child.wait()?;
+    Ok(Answers { bytes, status })
+}
+
+/// The first difference; `owed` is the number of answers that each side owes.
+pub fn first_difference(owed: usize, ours: &Answers, oracle: &Answers) -> Option<Difference> {
+    let well = |side: &Answers| {
+        let answers = side.bytes.iter().filter(|&&byte| byte == b'\n').count();
+        side.status.success() && answers == owed && side.bytes.last().is_none_or(|&b| b == b'\n')
+    };
+    if ours.bytes == oracle.bytes && well(ours) && well(oracle) {
+        return None;
+    }
+    let (ours_lines, oracle_lines) = (ours.lines(), oracle.lines());
+    let most = ours_lines.len().max(oracle_lines.len());
+    let line = (0..most)
+        .find(|&at| at >= owed || ours_lines.get(at) != oracle_lines.get(at))
+        .unwrap_or(most);
+    Some(Difference {
+        line,
+        ours: ours.at(&ours_lines, line),
+        oracle: oracle.at(&oracle_lines, line),
+    })
+}
+
+impl Answers {
+    /// The answers, each with its newline.
+    fn lines(&self) -> Vec<&[u8]> {
+        self.bytes.split_inclusive(|&byte| byte == b'\n').collect()
+    }
+
+    /// What this side has at a line, in words, with its exit status if that is part of the difference.
+    fn at(&self, lines: &[&[u8]], line: usize) -> String {
+        let mut text = match lines.get(line) {
+            Some(answer) => match answer.strip_suffix(b"\n") {
+                Some(answer) => answer.escape_ascii().to_string(),
+                None => format!("{} (without a newline)", answer.escape_ascii()),
+            },
+            None => "(no answer)".to_string(),
+        };
+        if !self.status.success() {
+            text += &format!(" ({})", self.status);
+        }
+        text
+    }
+}

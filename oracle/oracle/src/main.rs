@@ -1,0 +1,82 @@
+//! The oracle: answers the port's scripts with the original Rust, makes scripts from seeds, and compares
+//! the two sides. This file reads the command line.
+//!
+//! Assumes: it is built with overflow checks and with panics that unwind, as the workspace says.
+
+mod codes;
+mod compare;
+mod debouncer;
+mod generate;
+mod guard;
+mod keyboard;
+mod layout;
+mod paper;
+mod random;
+mod replay;
+mod script;
+mod table;
+mod words;
+
+use std::io::{self, Write};
+use std::process::ExitCode;
+
+const USAGE: &str = "\
+usage: oracle replay                             answer the script on standard input
+       oracle names                              print the names and values of the key codes
+       oracle generate KIND COUNT SEED           print a script; KIND is: codes
+       oracle compare-names FILE..               hold the constants in these .rt files to the names
+       oracle compare KIND N SEED -- COMMAND..   hold COMMAND's answers to the oracle's";
+
+fn main() -> ExitCode {
+    let args: Vec<String> = std::env::args().skip(1).collect();
+    let words: Vec<&str> = args.iter().map(String::as_str).collect();
+    let done = match words.as_slice() {
+        ["replay"] => replay::run(),
+        ["names"] => print(codes::names().as_bytes()),
+        ["generate", kind, count, seed] => print_script(kind, count, seed),
+        ["compare-names", files @ ..] if !files.is_empty() => return compare::names::run(files),
+        ["compare", kind, n, seed, "--", command @ ..] if !command.is_empty() => {
+            return run_compare(kind, n, seed, command)
+        }
+        _ => return usage(),
+    };
+    match done {
+        Ok(()) => ExitCode::SUCCESS,
+        Err(error) => {
+            eprintln!("oracle: {error}");
+            ExitCode::from(2)
+        }
+    }
+}
+
+fn usage() -> ExitCode {
+    eprintln!("{USAGE}");
+    ExitCode::from(2)
+}
+
+fn print(bytes: &[u8]) -> io::Result<()> {
+    io::stdout().lock().write_all(bytes)
+}
+
+fn print_script(kind: &str, count: &str, seed: &str) -> io::Result<()> {
+    let numbers = (count.parse(), seed.parse());
+    let (Ok(count), Ok(seed)) = numbers else {
+        return Err(io::Error::other("COUNT and SEED are whole numbers"));
+    };
+    match generate::sample(kind, count, seed) {
+        Some(script) => print(&script.bytes()),
+        None => Err(io::Error::other(format!(
+            "no kind of script is called {kind}"
+        ))),
+    }
+}
+
+fn run_compare(kind: &str, n: &str, seed: &str, command: &[&str]) -> ExitCode {
+    let (Ok(count), Ok(number)) = (n.parse(), seed.parse()) else {
+        return usage();
+    };
+    match generate::kind(kind, count, number) {
+        Some(mut scripts) => compare::run(kind, number, scripts.as_mut(), command),
+        None => usage(),
+    }
+}
