@@ -16,9 +16,9 @@ use lib.Dec.{eqb, leb}
 use lib.ListN.{length, getD, drop, replicate}
 use Rattle.codes.specs.Codes.{modifier}
 use Rattle.codes.specs.Hid111.{key, modifierKey, condition, bit, Frame, Keys, OnlyModifiers, KeysReport, ConditionReport}
-use Rattle.codes.specs.Lists.{has, count, every, keep}
+use Rattle.lists.specs.Lists.{has, count, every, keep}
 use Rattle.codes.specs.Report.{reportOf}
-use Rattle.codes.proofs.Laws.{both-true}
+use Rattle.lists.proofs.Laws.{both-true, count-append, every-append}
 use Rattle.codes.proofs.Modifiers.{modified, modified-bit, no-bit}
 use Rattle.codes.proofs.Six.{taking, sixOf, report-parts, length-keyedAll, NoCondition, listed, over, said}
 
@@ -61,15 +61,6 @@ unfolding every count
 keys-count [] e = refl
 keys-count (c ∷ cs) e = let h = both-true _ (every _ cs) e in rw (spoken c (h .0) .1, keys-count cs (h .1))
 
-count-append : (p : ℕ → Bool) (xs ys : List ℕ) → count p (xs ++ ys) ≡ count p xs + count p ys
-unfolding count
-count-append p [] ys = omega arith
-count-append p (x ∷ xs) ys = go (p x) refl (count-append p xs ys)
-  where
-    go : (t : Bool) → p x ≡ t → count p (xs ++ ys) ≡ count p xs + count p ys → count p (x ∷ xs ++ ys) ≡ count p (x ∷ xs) + count p ys
-    go true t rest = rw t (omega arith)
-    go false t rest = rw t rest
-
 count-zeros : (u m : ℕ) → (u ≡ 0 → ⊥) → count (eqb u) (replicate m 0) ≡ 0
 unfolding count
 count-zeros u zero n = refl
@@ -86,11 +77,6 @@ count-keep p u (c ∷ cs) e = go (p c) (eqb u c) refl refl (count-keep p u cs e)
     go true false t s rest = rw (t, s) rest
     go false true t s rest = absurd (true≢false (sym e ∙ ap p (eqb-true u c s) ∙ t))
     go false false t s rest = rw (t, s) rest
-
-every-append : (p : ℕ → Bool) (xs ys : List ℕ) → every p xs ≡ true → every p ys ≡ true → every p (xs ++ ys) ≡ true
-unfolding every
-every-append p [] ys e f = f
-every-append p (x ∷ xs) ys e f = let h = both-true (p x) (every p xs) e in rw (h .0) (every-append p xs ys (h .1) f)
 
 every-zeros : (m : ℕ) → every (λ u. eqb u 0 || key u) (replicate m 0) ≡ true
 unfolding every

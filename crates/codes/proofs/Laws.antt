@@ -7,17 +7,13 @@ use mathlib.Core.Path.{_≡_, refl, sym, ap, _∙_}
 use native.Mathlib.Numerals.{add-one}
 use native.Mathlib.Omega.{arith}
 use borrow.Author.Tests.{leb-true, ne-eqb, le-leb, lt-leb, lt-ltb, le-ltb}
-use lib.Dec.{leb, eqb}
+use lib.Dec.{leb}
 use lib.ListN.{length, getD, take, drop, set, replicate, length-drop, take-append-drop, drop-of-length-le}
 use lib.Bits.{bitOr}
 use lib.Seq.{drop-cons, take-set-le, drop-set-add}
+use Rattle.lists.proofs.Laws.{both-true}
 use Rattle.codes.specs.Codes.{modifier, modifierBit}
 use Rattle.codes.specs.Report.{freePlace, filled, placed, keyed, pressedOf, withCodes}
-
--- both halves of a test that holds
-pub both-true : (a b : Bool) → a && b ≡ true → (a ≡ true) × (b ≡ true)
-both-true true b e = (refl, e)
-both-true false b e = let z : _≡_ {A = Bool} false true = e in (e, cc)
 
 -- a modifier lies between 0xE0 and 0xE7
 pub modifier-range : (code : ℕ) → modifier code ≡ true → (0xE0 ≤ code) × (code ≤ 0xE7)

@@ -10,9 +10,10 @@ use borrow.Author.Tests.{eq-eqb, ne-eqb, eqb-true, eqb-false, ltb-true, ltb-fals
 use lib.Bits.{bitOr, or-shr, or-mod, or-zero-r}
 use lib.Dec.{eqb, ltb}
 use Rattle.codes.specs.Codes.{modifier, modifierBit}
-use Rattle.codes.specs.Lists.{has}
+use Rattle.lists.specs.Lists.{has}
 use Rattle.codes.specs.Hid111.{bit}
-use Rattle.codes.proofs.Laws.{both-true, modifier-range, modifier-in}
+use Rattle.lists.proofs.Laws.{both-true}
+use Rattle.codes.proofs.Laws.{modifier-range, modifier-in}
 
 -- the first byte after each of the codes
 unfoldable pub modified : ℕ → List ℕ → ℕ

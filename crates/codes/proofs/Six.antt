@@ -17,9 +17,10 @@ use lib.ListN.{length, set, replicate, length-append, length-replicate, length-s
 use lib.Seq.{set-append-seam, append-snoc}
 use Rattle.codes.specs.Codes.{modifier, modifierBit}
 use Rattle.codes.specs.Hid111.{condition}
-use Rattle.codes.specs.Lists.{count, every, keep}
+use Rattle.lists.specs.Lists.{count, every, keep}
 use Rattle.codes.specs.Report.{freePlace, filled, placed, keyed, pressedOf, withCodes, reportOf}
-use Rattle.codes.proofs.Laws.{both-true, modifier-range, filled-is, keyed-none, keyed-filled, keyed-placed, placed-free, placed-full}
+use Rattle.lists.proofs.Laws.{both-true}
+use Rattle.codes.proofs.Laws.{modifier-range, filled-is, keyed-none, keyed-filled, keyed-placed, placed-free, placed-full}
 use Rattle.codes.proofs.Modifiers.{modified}
 
 -- a code that takes a place: no modifier, not 0, and no condition

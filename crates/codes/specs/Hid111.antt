@@ -7,7 +7,7 @@ use mathlib.Core.List.{List}
 use mathlib.Core.Path.{_≡_}
 use lib.Dec.{eqb, leb}
 use lib.ListN.{length, getD, drop, replicate}
-use Rattle.codes.specs.Lists.{has, count, every}
+use Rattle.lists.specs.Lists.{has, count, every}
 
 -- a key that the Usage Tables name, other than a modifier
 unfoldable pub key : ℕ → Bool

@@ -1,4 +1,3 @@
 pub mod Codes
 pub mod Report
-pub mod Lists
 pub mod Hid111

@@ -1,0 +1,26 @@
+-- Plain words on lists, for statements. Assumes nothing.
+use Prim.Native.Nat.{ℕ, suc}
+use mathlib.Core.Bool.{Bool, true, false, cond, _&&_, _||_}
+use mathlib.Core.List.{List, [], _∷_}
+use lib.Dec.{eqb}
+
+-- a number stands in the list
+unfoldable pub has : ℕ → List ℕ → Bool
+has u [] = false
+has u (v ∷ vs) = eqb v u || has u vs
+
+module _ {A : Type 0} where
+  -- how many of the list pass the test
+  unfoldable pub count : (A → Bool) → List A → ℕ
+  count p [] = 0
+  count p (u ∷ us) = cond (p u) (suc (count p us)) (count p us)
+
+  -- each of the list passes the test
+  unfoldable pub every : (A → Bool) → List A → Bool
+  every p [] = true
+  every p (u ∷ us) = p u && every p us
+
+  -- those of the list that pass the test, in their order
+  unfoldable pub keep : (A → Bool) → List A → List A
+  keep p [] = []
+  keep p (u ∷ us) = cond (p u) (u ∷ keep p us) (keep p us)
