@@ -1,0 +1,23 @@
+-- `debounce::Debouncer::get` meets its contract. Assumes nothing.
+use borrow.Author.Needs.{needs}
+use mathlib.Core.Path.{_≡_, refl, sym, ap, _∙_}
+use borrow.Author.Tests.{not-true, not-false, le-leb, lt-leb}
+use Rattle.debounce.specs.Calls.{stateGood, rule, makingVerdict, getVerdict, updateVerdict, eventsVerdict, made, got, updated, told, buffered}
+use Rattle.debounce.proofs.Debouncer.get.Statement.{statement}
+use Rattle.debounce.proofs.Debouncer.get.Tie as tie
+
+returns : tie.Need-returns
+unfolding got getVerdict rule
+returns c = rw (sym (c .before .state-good .ensures) ∙ not-true _ (c .if1 .taken))
+
+returns-2 : tie.Need-returns-2
+unfolding got getVerdict rule
+returns-2 c = rw (sym (c .before .before .state-good .ensures) ∙ not-false _ (c .before .if1 .left))
+
+pub get-spec : {M : Type 1} → statement M
+get-spec =
+    tie.close
+    (tie.spec
+    (λ c κs. search needs)
+    returns
+    returns-2)

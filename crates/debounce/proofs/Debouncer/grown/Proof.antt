@@ -1,0 +1,23 @@
+-- `debounce::Debouncer::grown` meets its contract. Assumes nothing.
+use borrow.Author.Needs.{needs}
+use mathlib.Core.Path.{sym, _∙_}
+use Rattle.debounce.specs.Step as bounce
+use Rattle.debounce.proofs.Debouncer.grown.Statement.{statement}
+use Rattle.debounce.proofs.Debouncer.grown.Tie as tie
+
+returns : tie.Need-returns
+unfolding bounce.grown
+returns c = rw (sym (c .before .before .are-alike .ensures) ∙ c .before .if1 .taken)
+
+returns-2 : tie.Need-returns-2
+unfolding bounce.grown
+returns-2 c = rw (sym (c .before .are-alike .ensures) ∙ c .if1 .left)
+
+pub grown-spec : {M : Type 1} → statement M
+grown-spec =
+    tie.close
+    (tie.spec
+    (λ c κs. search needs)
+    (λ c. search needs)
+    returns
+    returns-2)

@@ -1,0 +1,42 @@
+-- Laws of pictures: two places on, a scan laid into its places, the first places and the rest. Assumes nothing.
+use Prim.Native.Nat.{ℕ, zero, suc, _+_, _-_, _<_, _≤_}
+use mathlib.Core.Bool.{Bool, true, false, _&&_}
+use mathlib.Core.List.{List, [], _∷_, _++_}
+use mathlib.Core.Path.{_≡_, refl, sym, ap, _∙_}
+use native.Mathlib.Numerals.{add-one, add-two}
+use native.Mathlib.Omega.{arith}
+use borrow.Author.Tests.{eq-eqb, ne-eqb, eqb-true}
+use lib.Dec.{eqb}
+use lib.ListN.{length, take, drop, getD, set, replicate, length-take, length-append, length-replicate, drop-of-length-le}
+use lib.Seq.{drop-cons, take-suc, set-at, length-take-le, append-snoc, sets}
+use Rattle.event.specs.declared.Event.{Event}
+use Rattle.event.specs.declared.Event.the-variants.{Release, Press}
+use Rattle.event.specs.Bytes.{bytesOf}
+use Rattle.debounce.specs.Picture.{alike}
+
+-- from a place on: equal there and then from the next place on; not equal there; none left
+module _ (a b : List ℕ) (i : ℕ) where
+  pub alike-on : i < length a → i < length b → getD a i 0 ≡ getD b i 0 → alike (drop i a) (drop i b) ≡ alike (drop (i + 1) a) (drop (i + 1) b)
+  unfolding alike
+  alike-on h g e = rw (add-one, drop-cons a i 0, drop-cons b i 0, eq-eqb (getD a i 0) (getD b i 0) e)
+
+  pub alike-fails : i < length a → i < length b → (getD a i 0 ≡ getD b i 0 → ⊥) → alike (drop i a) (drop i b) ≡ false
+  unfolding alike
+  alike-fails h g n = rw (drop-cons a i 0, drop-cons b i 0, ne-eqb (getD a i 0) (getD b i 0) n)
+
+  pub alike-none : length a ≤ i → length b ≤ i → alike (drop i a) (drop i b) ≡ true
+  unfolding alike
+  alike-none h g = rw (drop-of-length-le a h, drop-of-length-le b g)
+
+-- so many bytes of a scan, and zeros to the 128th place: one byte more
+pub pad-on : (scan : List ℕ) (i : ℕ) → i < length scan → length scan ≤ 128
+    → set (take i scan ++ replicate (128 - i) 0) i (getD scan i 0) ≡ take (i + 1) scan ++ replicate (128 - (i + 1)) 0
+pad-on scan i h long =
+    let room : 128 - i ≡ suc (128 - (i + 1)) = omega arith in
+    rw (room, set-at (take i scan) 0 (replicate (128 - (i + 1)) 0) (getD scan i 0) i (length-take-le i scan (omega arith)), add-one, take-suc scan i 0, append-snoc)
+
+-- three bytes written one after the other are an event's bytes written
+pub three-set : (e : Event) (l : List ℕ) (at : ℕ)
+    → set (set (set l at (getD (bytesOf e) 0 0)) (at + 1) (getD (bytesOf e) 1 0)) (at + 2) (getD (bytesOf e) 2 0) ≡ sets l at (bytesOf e)
+three-set (Release i j) l at = rw (add-one, add-two)
+three-set (Press i j) l at = rw (add-one, add-two)

@@ -1,0 +1,5 @@
+pub mod Laws
+pub mod EventLaws
+pub mod States
+pub mod Runs
+pub mod Unique

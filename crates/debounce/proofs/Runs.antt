@@ -1,0 +1,117 @@
+-- What holds of a debouncer from its making on: it is never refused State, whatever scans it is given; and the test on pictures
+-- is equality. Assumes nothing.
+use Prim.Native.Nat.{ℕ, zero, suc, _+_, _-_, _*_, _<_, _≤_}
+use mathlib.Core.Bool.{Bool, true, false, cond, _&&_}
+use mathlib.Core.List.{List, [], _∷_, _++_, append-nil}
+use mathlib.Core.Path.{_≡_, refl, sym, ap, _∙_}
+use native.Mathlib.Omega.{arith}
+use borrow.Author.Tests.{le-leb, leb-true, ltb-false, eqb-true, eq-eqb}
+use lib.Dec.{leb, ltb, eqb}
+use lib.ListN.{length, take, drop, replicate}
+use lib.Seq.{take-at, drop-at}
+use Rattle.lists.specs.Lists.{every}
+use Rattle.lists.proofs.Laws.{both-true}
+use Rattle.debounce.specs.Picture.{alike, padded, binary, unused, isPicture, isScan}
+use Rattle.debounce.specs.Step as bounce
+use Rattle.refusal.specs.declared.Refusal.the-variants.{Scan, Bounce}
+use Rattle.debounce.specs.Calls.{switches, sizesGood, bounceGood, stateGood, makingVerdict, made, refusedMaking, bounceOf, withBounce, stepOf, rule}
+use Rattle.debounce.specs.declared.Debouncer.{Debouncer}
+use Rattle.debounce.specs.declared.Verdict.the-variants.{Fine}
+use Rattle.debounce.proofs.States.{scan-long}
+
+-- pictures that pass the test are equal, and equal ones pass it
+pub alike-is : (a b : List ℕ) → alike a b ≡ true → a ≡ b
+unfolding alike
+alike-is [] [] e = refl
+alike-is [] (y ∷ b) e = cc
+alike-is (x ∷ a) [] e = cc
+alike-is (x ∷ a) (y ∷ b) e =
+    let h = both-true (eqb x y) (alike a b) e in
+    rw (eqb-true x y (h .0), alike-is a b (h .1))
+
+pub alike-self : (a : List ℕ) → alike a a ≡ true
+unfolding alike
+alike-self [] = refl
+alike-self (x ∷ a) = rw (eq-eqb x x refl) (alike-self a)
+
+zeros-unused : (m : ℕ) → every unused (replicate m 0) ≡ true
+unfolding every
+zeros-unused zero = refl
+zeros-unused (suc m) = zeros-unused m
+
+-- a scan in its places is a picture
+scan-picture : (n : ℕ) (scan : List ℕ) → isScan n scan ≡ true → isPicture n (padded scan) ≡ true
+unfolding isScan isPicture
+scan-picture n scan e =
+    let long = scan-long n scan e in
+    let h = both-true (eqb (length scan) n) (every binary scan) e in
+    rw (take-at scan (replicate (128 - length scan) 0) n long, drop-at scan (replicate (128 - length scan) 0) n long, h .1) (zeros-unused (128 - length scan))
+
+-- the parts of a legal state, put together
+state-of : (d : Debouncer) → bounceGood (d .rows) (d .columns) (d .«nb_bounce») ≡ true → d .since ≤ d .«nb_bounce»
+    → isPicture (switches d) (d .cur) ≡ true → isPicture (switches d) (d .new) ≡ true → stateGood d ≡ true
+unfolding stateGood
+state-of d b s c n = rw (b, le-leb (d .since) (d .«nb_bounce») s, c, n)
+
+-- and taken apart
+pub record Legal (d : Debouncer) : Type 0 where
+  pub sizes : bounceGood (d .rows) (d .columns) (d .«nb_bounce») ≡ true
+  pub since-low : d .since ≤ d .«nb_bounce»
+  pub accepted : isPicture (switches d) (d .cur) ≡ true
+  pub candidate : isPicture (switches d) (d .new) ≡ true
+
+legal-parts : (d : Debouncer) → stateGood d ≡ true → Legal d
+unfolding stateGood
+legal-parts d e =
+    let b = both-true (bounceGood (d .rows) (d .columns) (d .«nb_bounce»)) _ e in
+    let s = both-true (leb (d .since) (d .«nb_bounce»)) _ (b .1) in
+    let p = both-true (isPicture (switches d) (d .cur)) (isPicture (switches d) (d .new)) (s .1) in
+    record { sizes = b .0; since-low = leb-true (d .since) (d .«nb_bounce») (s .0); accepted = p .0; candidate = p .1 }
+
+refused-legal : stateGood refusedMaking ≡ true
+unfolding stateGood bounceGood sizesGood isPicture every
+refused-legal = refl
+
+made-by : (rows columns nb : ℕ) (start : List ℕ) (b s : Bool) → bounceGood rows columns nb ≡ b → isScan (rows * columns) start ≡ s
+    → stateGood (made (rule b Bounce (rule s Scan Fine)) rows columns nb start .debouncer) ≡ true
+unfolding made rule
+made-by rows columns nb start true true e f =
+    let picture = scan-picture (rows * columns) start f in
+    state-of _ e (omega arith) picture picture
+made-by rows columns nb start true false e f = refused-legal
+made-by rows columns nb start false s e f = refused-legal
+
+-- a debouncer that is made, refused or not, is legal
+pub made-legal : (rows columns nb : ℕ) (start : List ℕ) → stateGood (made (makingVerdict rows columns nb start) rows columns nb start .debouncer) ≡ true
+unfolding makingVerdict
+made-legal rows columns nb start = made-by rows columns nb start (bounceGood rows columns nb) (isScan (rows * columns) start) refl refl
+
+-- both pictures of a bounce are pictures of the debouncer's switches
+Pictures : Debouncer → bounce.Bounce (List ℕ) → Type 0
+Pictures d b = (isPicture (switches d) (b .accepted) ≡ true) × (isPicture (switches d) (b .candidate) ≡ true)
+
+passed-legal : (d : Debouncer) (b : bounce.Bounce (List ℕ)) (past : Bool) → ltb (d .«nb_bounce») (b .since) ≡ past
+    → bounceGood (d .rows) (d .columns) (d .«nb_bounce») ≡ true → Pictures d b
+    → stateGood (withBounce d (bounce.passed alike (d .«nb_bounce») b .bounce)) ≡ true
+unfolding bounce.passed Pictures
+passed-legal d b true e sizes p = rw e (state-of _ sizes (omega arith) (p .1) (p .0))
+passed-legal d b false e sizes p = rw e (state-of _ sizes (ltb-false (d .«nb_bounce») (b .since) e) (p .0) (p .1))
+
+grown-pictures : (d : Debouncer) (b : bounce.Bounce (List ℕ)) (scan : List ℕ) (same : Bool) → alike (b .candidate) scan ≡ same
+    → Pictures d b → isPicture (switches d) scan ≡ true → Pictures d (bounce.grown alike (d .«nb_bounce») b scan)
+unfolding bounce.grown Pictures
+grown-pictures d b scan true e p s = rw e p
+grown-pictures d b scan false e p s = rw e (p .0, s)
+
+step-by : (d : Debouncer) (scan : List ℕ) (same : Bool) → alike (d .cur) (padded scan) ≡ same → Legal d → isScan (switches d) scan ≡ true
+    → stateGood (withBounce d (stepOf d scan .bounce)) ≡ true
+unfolding bounce.step Pictures
+step-by d scan true e l s = rw e (state-of _ (l .sizes) (omega arith) (l .accepted) (l .candidate))
+step-by d scan false e l s =
+    rw e
+    (passed-legal d (bounce.grown alike (d .«nb_bounce») (bounceOf d) (padded scan)) _ refl (l .sizes)
+    (grown-pictures d (bounceOf d) (padded scan) _ refl (l .accepted, l .candidate) (scan-picture (switches d) scan s)))
+
+-- a legal debouncer stays legal with every scan that is not refused: so from its making on no call is refused State
+pub step-legal : (d : Debouncer) (scan : List ℕ) → stateGood d ≡ true → isScan (switches d) scan ≡ true → stateGood (withBounce d (stepOf d scan .bounce)) ≡ true
+step-legal d scan e s = step-by d scan (alike (d .cur) (padded scan)) refl (legal-parts d e) s

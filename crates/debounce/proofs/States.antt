@@ -1,0 +1,93 @@
+-- What a debouncer that State is not given for is: its sizes, its counts, its room; and what a verdict of no refusal tells.
+-- Assumes nothing.
+use Prim.Native.Nat.{ℕ, _*_, _<_, _≤_}
+use mathlib.Core.Bool.{Bool, true, false, _&&_}
+use mathlib.Core.List.{List}
+use mathlib.Core.Path.{_≡_, refl, sym, _∙_}
+use native.Mathlib.Nat.{mul-le-mul}
+use native.Mathlib.Omega.{arith}
+use borrow.Author.Tests.{leb-true, ltb-true, eqb-true}
+use lib.Dec.{leb, ltb, eqb}
+use lib.ListN.{length}
+use Rattle.lists.specs.Lists.{every}
+use Rattle.lists.proofs.Laws.{both-true}
+use Rattle.refusal.specs.declared.Refusal.{Refusal}
+use Rattle.debounce.specs.Picture.{binary, isPicture, isScan}
+use Rattle.debounce.specs.Calls.{switches, sizesGood, bounceGood, stateGood, rule, makingVerdict, updateVerdict, eventsVerdict}
+use Rattle.debounce.specs.declared.Debouncer.{Debouncer}
+use Rattle.debounce.specs.declared.Verdict.{Verdict}
+use Rattle.debounce.specs.declared.Verdict.the-variants.{Fine, Refused}
+
+pub record Sized (rows columns nb : ℕ) : Type 0 where
+  pub some-rows : 1 ≤ rows
+  pub few-rows : rows ≤ 8
+  pub some-columns : 1 ≤ columns
+  pub few-columns : columns ≤ 16
+  pub low : nb < 65535
+  pub few : rows * columns ≤ 128
+
+pub sized : (rows columns nb : ℕ) → bounceGood rows columns nb ≡ true → Sized rows columns nb
+unfolding bounceGood sizesGood
+sized rows columns nb e =
+    let b = both-true ((leb 1 rows && leb rows 8) && (leb 1 columns && leb columns 16)) (ltb nb 65535) e in
+    let s = both-true (leb 1 rows && leb rows 8) (leb 1 columns && leb columns 16) (b .0) in
+    let r = both-true (leb 1 rows) (leb rows 8) (s .0) in
+    let c = both-true (leb 1 columns) (leb columns 16) (s .1) in
+    record {
+      some-rows = leb-true 1 rows (r .0);
+      few-rows = leb-true rows 8 (r .1);
+      some-columns = leb-true 1 columns (c .0);
+      few-columns = leb-true columns 16 (c .1);
+      low = ltb-true nb 65535 (b .1);
+      few = mul-le-mul {n₁ = rows} {m₁ = columns} {n₂ = 8} {m₂ = 16} (leb-true rows 8 (r .1)) (leb-true columns 16 (c .1));
+    }
+
+-- a legal debouncer: its sizes, and that its count is not past nb_bounce
+pub legal : (d : Debouncer) → stateGood d ≡ true → Sized (d .rows) (d .columns) (d .«nb_bounce») × (d .since ≤ d .«nb_bounce»)
+unfolding stateGood
+legal d e =
+    let b = both-true (bounceGood (d .rows) (d .columns) (d .«nb_bounce»)) (leb (d .since) (d .«nb_bounce») && (isPicture (switches d) (d .cur) && isPicture (switches d) (d .new))) e in (
+      sized (d .rows) (d .columns) (d .«nb_bounce») (b .0),
+      leb-true (d .since) (d .«nb_bounce») (both-true (leb (d .since) (d .«nb_bounce»)) (isPicture (switches d) (d .cur) && isPicture (switches d) (d .new)) (b .1) .0),
+    )
+
+-- a rule that leaves no refusal is kept, and so are those behind it
+kept : (test : Bool) (r : Refusal) (rest : Verdict) → rule test r rest ≡ Fine → (test ≡ true) × (rest ≡ Fine)
+unfolding rule
+kept true r rest e = (refl, e)
+kept false r rest e = (cc, cc)
+
+pub scan-long : (n : ℕ) (scan : List ℕ) → isScan n scan ≡ true → length scan ≡ n
+unfolding isScan
+scan-long n scan e = eqb-true (length scan) n (both-true (eqb (length scan) n) (every binary scan) e .0)
+
+pub making-fine : (rows columns nb : ℕ) (start : List ℕ) → makingVerdict rows columns nb start ≡ Fine → length start ≤ 128
+unfolding makingVerdict
+making-fine rows columns nb start e =
+    let k = kept (bounceGood rows columns nb) _ _ e in
+    let s = sized rows columns nb (k .0) in
+    omega (arith, s .few, scan-long (rows * columns) start (kept (isScan (rows * columns) start) _ _ (k .1) .0))
+
+-- what a scan that is not refused finds
+pub record Taken (d : Debouncer) (scan : List ℕ) : Type 0 where
+  pub sizes : Sized (d .rows) (d .columns) (d .«nb_bounce»)
+  pub since-low : d .since < 65535
+  pub scan-fits : length scan ≤ 128
+
+taken : (d : Debouncer) (scan : List ℕ) → stateGood d ≡ true → isScan (switches d) scan ≡ true → Taken d scan
+taken d scan s f =
+    let l = legal d s in
+    record { sizes = l .0; since-low = omega (arith, l .0 .low, l .1); scan-fits = omega (arith, l .0 .few, scan-long (switches d) scan f) }
+
+pub update-fine : (d : Debouncer) (scan : List ℕ) → updateVerdict d scan ≡ Fine → Taken d scan
+unfolding updateVerdict
+update-fine d scan e =
+    let k = kept (stateGood d) _ _ e in
+    taken d scan (k .0) (kept (isScan (switches d) scan) _ _ (k .1) .0)
+
+pub events-fine : (d : Debouncer) (scan : List ℕ) (room : ℕ) → eventsVerdict d scan room ≡ Fine → Taken d scan × (3 * switches d ≤ room)
+unfolding eventsVerdict
+events-fine d scan room e =
+    let k = kept (stateGood d) _ _ e in
+    let f = kept (isScan (switches d) scan) _ _ (k .1) in
+    (taken d scan (k .0) (f .0), leb-true (3 * switches d) room (kept (leb (3 * switches d) room) _ _ (f .1) .0))

@@ -1,0 +1,19 @@
+-- Each public function's contract decides its whole answer, and `events`' what the buffer holds at exit. Assumes nothing.
+use mathlib.Core.Path.{refl, ap, _∙_, sym}
+use Rattle.decides.specs.Decides.{Decides, both}
+use Rattle.debounce.proofs.Debouncer.new as N
+use Rattle.debounce.proofs.Debouncer.get as G
+use Rattle.debounce.proofs.Debouncer.update as U
+use Rattle.debounce.proofs.Debouncer.events as E
+
+pub new : Decides N.ended (λ M. N.spec) (λ M. N.clauses)
+new M 𝓤 H A m r = record { same = refl; free = λ κs a g. refl; only = λ κs a g g′ x x′ ws ws′. both 𝓤 _ _ _ (λ p q. (p ∙ sym q, refl)) }
+
+pub get : Decides G.ended (λ M. G.spec) (λ M. G.clauses)
+get M 𝓤 H A m r = record { same = refl; free = λ κs a g. refl; only = λ κs a g g′ x x′ ws ws′. both 𝓤 _ _ _ (λ p q. (p ∙ sym q, refl)) }
+
+pub update : Decides U.ended (λ M. U.spec) (λ M. U.clauses)
+update M 𝓤 H A m r = record { same = refl; free = λ κs a g. refl; only = λ κs a g g′ x x′ ws ws′. both 𝓤 _ _ _ (λ p q. (p ∙ sym q, refl)) }
+
+pub events : Decides E.ended (λ M. E.spec) (λ M. E.clauses)
+events M 𝓤 H A m r = record { same = refl; free = λ κs a g. refl; only = λ κs a g g′ x x′ ws ws′. both 𝓤 _ _ _ (λ p q. (p .0 ∙ sym (q .0), ap (λ w. (tt, (tt, (w, tt)))) (p .1 ∙ sym (q .1)))) }

@@ -1,0 +1,54 @@
+-- `debounce::are_unused` meets its contract: each place so far is 0, so those that are left decide. Assumes nothing.
+use borrow.Author.Needs.{needs}
+use Prim.Native.Nat.{_-_, _<_, _≤_}
+use mathlib.Core.Path.{_≡_, refl, sym, _∙_}
+use borrow.Author.Tests.{eq-eqb, ne-eqb}
+use lib.ListN.{length, drop, getD}
+use native.Mathlib.Omega.{arith}
+use Rattle.lists.specs.Lists.{every}
+use Rattle.lists.proofs.Laws.{every-on, every-fails, every-none}
+use Rattle.debounce.specs.Picture.{unused}
+use Rattle.debounce.proofs.are_unused.Statement.{statement}
+use Rattle.debounce.proofs.are_unused.Tie as tie
+
+abbrev Inv-loop : tie.InvT-loop
+Inv-loop places n i₀ i = every unused (drop n places) ≡ every unused (drop i places)
+
+abbrev μ-loop : tie.MeasureT-loop
+μ-loop places n i₀ i = length places - i
+
+loop-holds : tie.Need-loop-holds Inv-loop μ-loop
+loop-holds c = refl
+
+returns : tie.Need-returns Inv-loop μ-loop
+returns c =
+    let at-loop = c .before .before .before in
+    let l = at-loop .before .args .places .now in
+    let i = at-loop .loop .i in
+    sym (at-loop .loop .inv ∙ every-fails unused l i 0 (omega arith) (ne-eqb (getD l i 0) 0 (c .if1 .taken)))
+
+loop-again : tie.Need-loop-again Inv-loop μ-loop
+loop-again c =
+    let at-loop = c .before .before .before in
+    let l = at-loop .before .args .places .now in
+    let i = at-loop .loop .i in
+    at-loop .loop .inv ∙ every-on unused l i 0 (omega arith) (eq-eqb (getD l i 0) 0 (c .if1 .left))
+
+returns-2 : tie.Need-returns-2 Inv-loop μ-loop
+returns-2 c =
+    let at-loop = c .before in
+    sym (at-loop .loop .inv ∙ every-none unused (at-loop .before .args .places .now) (at-loop .loop .i) 0 (c .loop-test .left))
+
+pub are-unused-spec : {M : Type 1} → statement M
+are-unused-spec =
+    tie.close
+    (tie.spec
+    Inv-loop
+    μ-loop
+    loop-holds
+    (λ c. search needs)
+    returns
+    (λ c. search needs)
+    (λ c. search needs)
+    loop-again
+    returns-2)

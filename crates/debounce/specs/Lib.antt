@@ -1,0 +1,5 @@
+pub mod Picture
+pub mod Step
+pub mod Events
+pub mod Calls
+pub mod Inside

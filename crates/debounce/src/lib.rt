@@ -1,0 +1,428 @@
+// keyberon's debounce.rs: filters the bounces of switches. A change is taken once it has stood for more than `nb_bounce`
+// scans, and is told as events. Document 01, Debounce.
+// Assumes nothing.
+use event::Event;
+use refusal::Refusal;
+ghost use mathlib.Core.Path.{_≡_};
+ghost use Prim.Native.Nat.{_+_, _*_, _≤_, _<_};
+ghost use mathlib.Core.Bool.{true};
+ghost use mathlib.Core.List.{_++_};
+ghost use lib.ListN.{length, take, drop};
+ghost use lib.Seq.{sets};
+ghost use Rattle.lists.specs.Lists.{every};
+ghost use Rattle.event.specs.Bytes.{bytesOf};
+ghost use Rattle.debounce.specs.Picture.{alike, padded, binary, unused, isPicture, isScan};
+ghost use Rattle.debounce.specs.Events.{eventAt, changeAt, changes, written};
+ghost use Rattle.debounce.specs.Step as bounce;
+ghost use Rattle.debounce.specs.Calls.{sizesGood, bounceGood, stateGood, switches, makingVerdict, getVerdict, updateVerdict, eventsVerdict, bounceOf, withBounce, made, got, updated, told, laid, buffered};
+ghost use Rattle.debounce.specs.Inside.{stepOut, eventsIn};
+
+// The accepted picture, the candidate, for how many scans the candidate has stood, and the size. A switch that is down is
+// 1, one that is up 0, row by row; places past the last switch are 0.
+pub struct Debouncer {
+    pub cur: [u8; 128],
+    pub new: [u8; 128],
+    pub since: u16,
+    pub nb_bounce: u16,
+    pub rows: usize,
+    pub columns: usize,
+}
+
+// Whether a call is refused.
+pub enum Verdict {
+    Fine,
+    Refused(Refusal),
+}
+
+pub struct Made {
+    pub verdict: Verdict,
+    pub debouncer: Debouncer,
+}
+
+pub struct Got {
+    pub verdict: Verdict,
+    pub picture: [u8; 128],
+}
+
+pub enum Update {
+    Changed(bool),
+    Refused(Refusal),
+}
+
+pub struct Updated {
+    pub update: Update,
+    pub debouncer: Debouncer,
+}
+
+// How many events were written, three bytes each.
+pub enum Telling {
+    Events(usize),
+    Refused(Refusal),
+}
+
+pub struct Told {
+    pub telling: Telling,
+    pub debouncer: Debouncer,
+}
+
+// What one scan leaves, and whether the accepted picture changed.
+struct Step {
+    changed: bool,
+    debouncer: Debouncer,
+}
+
+// Whether each of the first n places is 0 or 1.
+fn are_binary(places: &[u8], n: usize) -> bool
+    ensures { λ r. ⌜ r ≡ every binary (take n (now (places .entry))) ⌝ }
+{
+    let mut i = 0;
+    while i < n && i < places.len() {
+        if 1 < places[i] {
+            return false;
+        }
+        i += 1;
+    }
+    true
+}
+
+// Whether each place from n on is 0.
+fn are_unused(places: &[u8], n: usize) -> bool
+    ensures { λ r. ⌜ r ≡ every unused (drop n (now (places .entry))) ⌝ }
+{
+    let mut i = n;
+    while i < places.len() {
+        if places[i] != 0 {
+            return false;
+        }
+        i += 1;
+    }
+    true
+}
+
+fn is_picture(places: [u8; 128], n: usize) -> bool
+    ensures { λ r. ⌜ r ≡ isPicture n places ⌝ }
+{
+    are_binary(&places, n) && are_unused(&places, n)
+}
+
+fn is_scan(scan: &[u8], n: usize) -> bool
+    ensures { λ r. ⌜ r ≡ isScan n (now (scan .entry)) ⌝ }
+{
+    scan.len() == n && are_binary(scan, n)
+}
+
+fn are_alike(a: [u8; 128], b: [u8; 128]) -> bool
+    ensures { λ r. ⌜ r ≡ alike a b ⌝ }
+{
+    let mut i = 0;
+    while i < 128 {
+        if a[i] != b[i] {
+            return false;
+        }
+        i += 1;
+    }
+    true
+}
+
+// A scan in its 128 places.
+fn pad(scan: &[u8]) -> [u8; 128]
+    requires { ⌜ length (now scan) ≤ 128 ⌝ }
+    ensures { λ r. ⌜ r ≡ padded (now (scan .entry)) ⌝ }
+{
+    let mut places = [0u8; 128];
+    let mut i = 0;
+    while i < scan.len() {
+        places[i] = scan[i];
+        i += 1;
+    }
+    places
+}
+
+fn sizes_good(rows: usize, columns: usize) -> bool
+    ensures { λ r. ⌜ r ≡ sizesGood rows columns ⌝ }
+{
+    if rows < 1 {
+        return false;
+    }
+    if 8 < rows {
+        return false;
+    }
+    1 <= columns && columns <= 16
+}
+
+fn bounce_good(rows: usize, columns: usize, nb_bounce: u16) -> bool
+    ensures { λ r. ⌜ r ≡ bounceGood rows columns «nb_bounce» ⌝ }
+{
+    sizes_good(rows, columns) && nb_bounce < 65535
+}
+
+// The event of the switch at a place, which is now so.
+fn event_at(columns: usize, place: usize, now: u8) -> Event
+    requires { ⌜ (0 < columns) × (columns ≤ 16) × (place < 128) ⌝ }
+    ensures { λ r. ⌜ r ≡ eventAt columns place now ⌝ }
+{
+    let i = (place / columns) as u8;
+    let j = (place % columns) as u8;
+    if now == 0 {
+        return Event::Release(i, j);
+    }
+    Event::Press(i, j)
+}
+
+// An event's three bytes, at a place of the buffer.
+fn put_event(out: &mut [u8], at: usize, event: Event)
+    requires { ⌜ at + 3 ≤ length (now out) ⌝ }
+    ensures { λ _. ⌜ now (out .exit) ≡ sets (now (out .entry)) at (bytesOf event) ⌝ }
+{
+    let b = event.bytes();
+    out[at] = b[0];
+    out[at + 1] = b[1];
+    out[at + 2] = b[2];
+}
+
+// Where a switch differs, one event more behind the `told` that stand in the buffer.
+fn tell_place(was: u8, is: u8, columns: usize, place: usize, out: &mut [u8], told: usize) -> usize
+    requires { ⌜ (0 < columns) × (columns ≤ 16) × (place < 128) × (told < 128) × (3 * told + 3 ≤ length (now out)) ⌝ }
+    ensures { λ r. ⌜ (r ≡ told + length (changeAt columns place was is)) × (now (out .exit) ≡ sets (now (out .entry)) (3 * told) (written (changeAt columns place was is))) ⌝ }
+{
+    if was == is {
+        return told;
+    }
+    put_event(out, 3 * told, event_at(columns, place, is));
+    told + 1
+}
+
+// The events between two pictures of n switches, from the start of the buffer on; and how many.
+fn tell(before: [u8; 128], after: [u8; 128], n: usize, columns: usize, out: &mut [u8]) -> usize
+    requires { ⌜ (n ≤ 128) × (0 < columns) × (columns ≤ 16) × (3 * n ≤ length (now out)) ⌝ }
+    ensures { λ r. ⌜ (r ≡ length (changes columns 0 (take n before) (take n after))) × (now (out .exit) ≡ laid (written (changes columns 0 (take n before) (take n after))) (now (out .entry))) ⌝ }
+{
+    let mut told = 0;
+    let mut place = 0;
+    while place < n {
+        told = tell_place(before[place], after[place], columns, place, out, told);
+        place += 1;
+    }
+    told
+}
+
+fn making_verdict(rows: usize, columns: usize, nb_bounce: u16, start: &[u8]) -> Verdict
+    ensures { λ r. ⌜ r ≡ makingVerdict rows columns «nb_bounce» (now (start .entry)) ⌝ }
+{
+    if !bounce_good(rows, columns, nb_bounce) {
+        return Verdict::Refused(Refusal::Bounce);
+    }
+    if !is_scan(start, rows * columns) {
+        return Verdict::Refused(Refusal::Scan);
+    }
+    Verdict::Fine
+}
+
+// The events of a step, in the buffer.
+fn tell_step(step: Step, out: &mut [u8]) -> Told
+    requires { ⌜ (0 < step .debouncer .columns) × (step .debouncer .columns ≤ 16) × (switches (step .debouncer) ≤ 128) × (3 * switches (step .debouncer) ≤ length (now out)) ⌝ }
+    ensures { λ r. ⌜ (r ≡ record { telling = Telling.Events (length (eventsIn step)); debouncer = step .debouncer }) × (now (out .exit) ≡ laid (written (eventsIn step)) (now (out .entry))) ⌝ }
+{
+    let debouncer = step.debouncer;
+    if !step.changed {
+        return Told {
+            telling: Telling::Events(0),
+            debouncer,
+        };
+    }
+    let before = debouncer.new;
+    let after = debouncer.cur;
+    let n = debouncer.rows * debouncer.columns;
+    let told = tell(before, after, n, debouncer.columns, out);
+    Told {
+        telling: Telling::Events(told),
+        debouncer,
+    }
+}
+
+impl Debouncer {
+    // A scan that differs from the accepted picture: it becomes the candidate, or has stood for one scan more.
+    fn grown(self, scan: [u8; 128]) -> Debouncer
+        requires { ⌜ self .since < 65535 ⌝ }
+        ensures { λ r. ⌜ r ≡ withBounce self (bounce.grown alike (self .«nb_bounce») (bounceOf self) scan) ⌝ }
+    {
+        let new = self.new;
+        let mut out = self;
+        if are_alike(new, scan) {
+            out.since = self.since + 1;
+            return out;
+        }
+        out.new = scan;
+        out.since = 1;
+        out
+    }
+
+    // Once since passes nb_bounce the two pictures change places.
+    fn passed(self) -> Step
+        ensures { λ r. ⌜ r ≡ stepOut self (bounce.passed alike (self .«nb_bounce») (bounceOf self)) ⌝ }
+    {
+        if self.since <= self.nb_bounce {
+            return Step {
+                changed: false,
+                debouncer: self,
+            };
+        }
+        let cur = self.cur;
+        let new = self.new;
+        let mut out = self;
+        out.cur = new;
+        out.new = cur;
+        out.since = 0;
+        Step {
+            changed: true,
+            debouncer: out,
+        }
+    }
+
+    // One scan.
+    fn step(self, scan: [u8; 128]) -> Step
+        requires { ⌜ self .since < 65535 ⌝ }
+        ensures { λ r. ⌜ r ≡ stepOut self (bounce.step alike (self .«nb_bounce») (bounceOf self) scan) ⌝ }
+    {
+        let cur = self.cur;
+        if are_alike(cur, scan) {
+            let mut out = self;
+            out.since = 0;
+            return Step {
+                changed: false,
+                debouncer: out,
+            };
+        }
+        self.grown(scan).passed()
+    }
+
+    // Whether no part of the state breaks its rule.
+    fn state_good(self) -> bool
+        ensures { λ r. ⌜ r ≡ stateGood self ⌝ }
+    {
+        let rows = self.rows;
+        let columns = self.columns;
+        if !bounce_good(rows, columns, self.nb_bounce) {
+            return false;
+        }
+        if self.nb_bounce < self.since {
+            return false;
+        }
+        let cur = self.cur;
+        let new = self.new;
+        is_picture(cur, rows * columns) && is_picture(new, rows * columns)
+    }
+
+    fn update_verdict(self, scan: &[u8]) -> Verdict
+        ensures { λ r. ⌜ r ≡ updateVerdict self (now (scan .entry)) ⌝ }
+    {
+        if !self.state_good() {
+            return Verdict::Refused(Refusal::State);
+        }
+        if !is_scan(scan, self.rows * self.columns) {
+            return Verdict::Refused(Refusal::Scan);
+        }
+        Verdict::Fine
+    }
+
+    fn events_verdict(self, scan: &[u8], room: usize) -> Verdict
+        ensures { λ r. ⌜ r ≡ eventsVerdict self (now (scan .entry)) room ⌝ }
+    {
+        if !self.state_good() {
+            return Verdict::Refused(Refusal::State);
+        }
+        if !is_scan(scan, self.rows * self.columns) {
+            return Verdict::Refused(Refusal::Scan);
+        }
+        if room < 3 * (self.rows * self.columns) {
+            return Verdict::Refused(Refusal::Room);
+        }
+        Verdict::Fine
+    }
+
+    // A debouncer whose start picture is accepted and candidate. Where it is refused: all up, 1 by 1, nb_bounce 0.
+    pub fn new(rows: usize, columns: usize, nb_bounce: u16, start: &[u8]) -> Made
+        ensures { λ r. ⌜ r ≡ made (makingVerdict rows columns «nb_bounce» (now (start .entry))) rows columns «nb_bounce» (now (start .entry)) ⌝ }
+    {
+        let verdict = making_verdict(rows, columns, nb_bounce, start);
+        match verdict {
+            Verdict::Fine => {
+                let picture = pad(start);
+                Made {
+                    verdict: Verdict::Fine,
+                    debouncer: Debouncer {
+                        cur: picture,
+                        new: picture,
+                        since: 0,
+                        nb_bounce,
+                        rows,
+                        columns,
+                    },
+                }
+            }
+            Verdict::Refused(refusal) => Made {
+                verdict: Verdict::Refused(refusal),
+                debouncer: Debouncer {
+                    cur: [0; 128],
+                    new: [0; 128],
+                    since: 0,
+                    nb_bounce: 0,
+                    rows: 1,
+                    columns: 1,
+                },
+            },
+        }
+    }
+
+    // The accepted picture.
+    pub fn get(self) -> Got
+        ensures { λ r. ⌜ r ≡ got (getVerdict self) self ⌝ }
+    {
+        if !self.state_good() {
+            return Got {
+                verdict: Verdict::Refused(Refusal::State),
+                picture: [0; 128],
+            };
+        }
+        let cur = self.cur;
+        Got {
+            verdict: Verdict::Fine,
+            picture: cur,
+        }
+    }
+
+    // Takes a scan, and answers whether the accepted picture changed.
+    pub fn update(self, scan: &[u8]) -> Updated
+        ensures { λ r. ⌜ r ≡ updated (updateVerdict self (now (scan .entry))) self (now (scan .entry)) ⌝ }
+    {
+        let verdict = self.update_verdict(scan);
+        match verdict {
+            Verdict::Fine => {
+                let step = self.step(pad(scan));
+                let debouncer = step.debouncer;
+                Updated {
+                    update: Update::Changed(step.changed),
+                    debouncer,
+                }
+            }
+            Verdict::Refused(refusal) => Updated {
+                update: Update::Refused(refusal),
+                debouncer: self,
+            },
+        }
+    }
+
+    // Takes a scan, and writes the events of the change, if there is one, to the start of the buffer.
+    pub fn events(self, scan: &[u8], out: &mut [u8]) -> Told
+        ensures { λ r. ⌜ (r ≡ told (eventsVerdict self (now (scan .entry)) (length (now (out .entry)))) self (now (scan .entry))) × (now (out .exit) ≡ buffered (eventsVerdict self (now (scan .entry)) (length (now (out .entry)))) self (now (scan .entry)) (now (out .entry))) ⌝ }
+    {
+        let verdict = self.events_verdict(scan, out.len());
+        match verdict {
+            Verdict::Fine => tell_step(self.step(pad(scan)), out),
+            Verdict::Refused(refusal) => Told {
+                telling: Telling::Refused(refusal),
+                debouncer: self,
+            },
+        }
+    }
+}

@@ -1,0 +1,4 @@
+pub mod Laws
+pub mod Chosen
+pub mod Accepted
+pub mod Unique

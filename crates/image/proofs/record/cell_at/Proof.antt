@@ -1,0 +1,65 @@
+-- `image::record::cell_at` meets its contract: a cell's place fits a machine word, since rows and columns are words. Assumes nothing.
+use Prim.Native.Nat.{_*_, _+_, _^_, _≤_}
+use Rattle.image.proofs.Laws.{room}
+use Rattle.image.specs.Record.{cellAt}
+use Rattle.image.specs.Words.{cellOf, columnsOf, layersOf, rowsOf}
+use borrow.Author.Needs.{needs}
+use borrow.Author.Tests.{le-ltb, lt-ltb}
+use denote.Ref.{now}
+use native.Mathlib.Omega.{arith}
+use Rattle.image.proofs.record.cell_at.Statement.{statement}
+use Rattle.image.proofs.record.cell_at.Tie as tie
+
+places : (c : tie.Then3) → (c .before .before .before .before .before .before .before .args .layer * c .before .before .before .before .before .«word-or-zero» .result ≤ 2 ^ 32) × ((c .before .before .before .before .before .before .before .args .layer * c .before .before .before .before .before .«word-or-zero» .result + c .before .before .before .before .before .before .before .args .row) * c .before .before .before .before .word-or-zero2 .result ≤ 2 ^ 33 * 65536)
+places c = room _ _ _ _ (omega arith) (omega arith) (omega arith) (omega arith)
+
+mul-place : tie.Need-mul-place
+mul-place c = omega (arith, places c)
+
+add-place : tie.Need-add-place
+add-place c = omega (arith, places c)
+
+mul-place-2 : tie.Need-mul-place-2
+mul-place-2 c = omega (arith, places c)
+
+add-place-2 : tie.Need-add-place-2
+add-place-2 c = omega (arith, places c)
+
+mul-word-or-zero : tie.Need-mul-word-or-zero
+mul-word-or-zero c = omega (arith, places c)
+
+add-word-or-zero : tie.Need-add-word-or-zero
+add-word-or-zero c = omega (arith, places c)
+
+word-or-zero-requires-4 : tie.Need-word-or-zero-requires-4
+word-or-zero-requires-4 c κs = omega (arith, places c)
+
+returns : tie.Need-returns
+unfolding cellAt cellOf
+returns c =
+    let a = c .before .before .before .before .before .before .before .before .args in
+    let img = now (a .image) in
+    simp (c .word-or-zero4 .ensures, c .before .before .before .before .before .before .word-or-zero .ensures, c .before .before .before .before .before .word-or-zero2 .ensures, lt-ltb (a .layer) (layersOf img) (omega arith), lt-ltb (a .row) (rowsOf img) (omega arith), lt-ltb (a .column) (columnsOf img) (omega arith))
+
+returns-2 : tie.Need-returns-2
+unfolding cellAt
+returns-2 c =
+    let a = c .before .before .before .before .before .before .before .args in
+    let img = now (a .image) in
+    simp (lt-ltb (a .layer) (layersOf img) (omega arith), lt-ltb (a .row) (rowsOf img) (omega arith), le-ltb (a .column) (columnsOf img) (omega arith))
+
+returns-3 : tie.Need-returns-3
+unfolding cellAt
+returns-3 c =
+    let a = c .before .before .before .before .before .before .args in
+    let img = now (a .image) in
+    simp (lt-ltb (a .layer) (layersOf img) (omega arith), le-ltb (a .row) (rowsOf img) (omega arith))
+
+returns-4 : tie.Need-returns-4
+unfolding cellAt
+returns-4 c =
+    let a = c .before .before .before .before .before .args in
+    simp (le-ltb (a .layer) (layersOf (now (a .image))) (omega arith))
+
+pub cell-at-spec : {M : Type 1} → statement M
+cell-at-spec = tie.close (tie.spec (λ c κs. search needs) (λ c. search needs) (λ c κs. search needs) (λ c. search needs) (λ c κs. search needs) (λ c. search needs) mul-place add-place mul-place-2 add-place-2 mul-word-or-zero add-word-or-zero word-or-zero-requires-4 returns returns-2 returns-3 returns-4)

@@ -1,0 +1,22 @@
+// keyberon's action.rs: the eight actions, now records of a table image, with the image's check, its lookups and the
+// table in use. Document 01, "The table image".
+// Assumes nothing.
+pub mod areas;
+pub mod record;
+pub mod rules;
+pub mod words;
+
+pub use areas::Source;
+pub use areas::in_use;
+pub use areas::refusal_in_use;
+pub use areas::source_of;
+pub use record::Action;
+pub use record::Cell;
+pub use record::Entry;
+pub use record::action_at;
+pub use record::cell_at;
+pub use record::entry_at;
+pub use rules::Checked;
+pub use rules::Told;
+pub use rules::check;
+pub use words::Shape;

@@ -1,0 +1,463 @@
+// The check of a table image, a rule a function: document 01, "Refusal numbers" 1 to 9. The header's words are read once
+// and handed on as numbers, and a record's words are read once for its first four rules.
+// Assumes nothing.
+use super::record::Action;
+use super::record::action_of;
+use super::words::Shape;
+use super::words::entry;
+use super::words::field;
+use super::words::shape_of;
+use super::words::word;
+use codes::KeyCode;
+use refusal::Refusal;
+ghost use mathlib.Core.Path.{_≡_};
+ghost use Prim.Native.Nat.{ℕ, _+_, _*_, _<_, _≤_};
+ghost use mathlib.Core.Bool.{true, _&&_};
+ghost use lib.ListN.{length};
+ghost use lib.Dec.{ltb};
+ghost use Rattle.codes.specs.Codes.{legal};
+ghost use Rattle.image.specs.Words.{shapeOf, cellsOf, recordsOf, entriesOf, recordsAt, listAt, entries};
+ghost use Rattle.image.specs.Record.{actionAt, codesIn, childrenIn, listEnd, hasEntry, lastEntry};
+ghost use Rattle.image.specs.Tree.{tree, weight, open?, settled, named, shutButLast};
+ghost use Rattle.lists.specs.Lists.{every};
+ghost use Rattle.image.specs.Check.{within, countsGood, offsetsGood, headerGood, headFault, cellFault, form, recordFault, firstFault, bodyFault, faultOf, checkOf, toldOf};
+ghost use Rattle.image.specs.Sound.{Framed, Placed, Good, Ready};
+
+// The header's numbers of an accepted image, or the first fault and its place.
+pub enum Checked {
+    Accepted(Shape),
+    Refused(Refusal, usize),
+}
+
+// The number and place of an answer, as document 01 counts refusals: 0 and 0 where nothing is refused.
+pub struct Told {
+    pub number: u8,
+    pub place: usize,
+}
+
+impl Checked {
+    // The paper's number and place, for programs that print them.
+    pub fn told(self) -> Told
+        ensures { λ r. ⌜ r ≡ toldOf self ⌝ }
+    {
+        match self {
+            Checked::Accepted(_) => Told {
+                number: 0,
+                place: 0,
+            },
+            Checked::Refused(refusal, place) => Told {
+                number: refusal.number(),
+                place,
+            },
+        }
+    }
+}
+
+// No fault, or the first one and its place.
+pub(crate) enum Fault {
+    Fine,
+    At(Refusal, usize),
+}
+
+fn is_within(lo: usize, hi: usize, x: usize) -> bool
+    ensures { λ r. ⌜ r ≡ within lo hi x ⌝ }
+{
+    lo <= x && x <= hi
+}
+
+fn both(a: bool, b: bool) -> bool
+    ensures { λ r. ⌜ r ≡ (a && b) ⌝ }
+{
+    if a { b } else { false }
+}
+
+// The version and the five counts keep their rules.
+fn counts_good(version: usize, s: Shape) -> bool
+    ensures { λ r. ⌜ r ≡ countsGood version s ⌝ }
+{
+    let layers = is_within(1, 8, s.layers);
+    let rows = is_within(1, 8, s.rows);
+    let columns = is_within(1, 16, s.columns);
+    let records = is_within(1, 256, s.records);
+    let entries = is_within(0, 1024, s.entries);
+    both(
+        version == 1,
+        both(layers, both(rows, both(columns, both(records, entries)))),
+    )
+}
+
+// The two offsets keep their rules, where the counts do.
+fn offsets_good(version: usize, s: Shape) -> bool
+    requires { ⌜ countsGood version s ≡ true ⌝ }
+    ensures { λ r. ⌜ r ≡ offsetsGood s ⌝ }
+{
+    let records_at = 16 + 2 * (s.layers * s.rows * s.columns);
+    if s.records_at != records_at {
+        return false;
+    }
+    s.list_at == records_at + 8 * s.records
+}
+
+fn header_good(version: usize, s: Shape) -> bool
+    ensures { λ r. ⌜ r ≡ headerGood version s ⌝ }
+{
+    if !counts_good(version, s) {
+        return false;
+    }
+    offsets_good(version, s)
+}
+
+// Header, then Length.
+pub(crate) fn head_fault(image: &[u8], s: Shape, long: bool) -> Fault
+    requires { ⌜ (16 ≤ length (now image)) × (s ≡ shapeOf (now image)) ⌝ }
+    ensures { λ r. ⌜ r ≡ headFault (now (image .entry)) long ⌝ }
+{
+    if !header_good(word(image, 0) as usize, s) {
+        return Fault::At(Refusal::Header, 0);
+    }
+    if !long {
+        return Fault::At(Refusal::Length, 0);
+    }
+    Fault::Fine
+}
+
+// The first cell that names no record.
+fn cells_fault(image: &[u8], count: usize, records: usize) -> Fault
+    requires { ⌜ Framed (now image) × (count ≡ cellsOf (now image)) × (records ≡ recordsOf (now image)) ⌝ }
+    ensures { λ r. ⌜ r ≡ firstFault (cellFault (now (image .entry))) 0 count ⌝ }
+{
+    let mut i = 0;
+    while i < count {
+        if records <= (word(image, 16 + 2 * i) as usize) {
+            return Fault::At(Refusal::Cell, i);
+        }
+        i += 1;
+    }
+    Fault::Fine
+}
+
+// The form of a record's words, where the list has so many entries.
+fn form_good(listed: usize, kind: u16, a: u16, b: u16, c: u16) -> bool
+    ensures { λ r. ⌜ r ≡ form listed kind a b c ⌝ }
+{
+    let a = a as usize;
+    let b = b as usize;
+    let c = c as usize;
+    if kind <= 1 {
+        return a + b + c == 0;
+    }
+    if kind == 2 {
+        return b + c == 0;
+    }
+    if kind <= 4 {
+        return both(a + b <= listed, c == 0);
+    }
+    if kind <= 6 {
+        return b + c == 0;
+    }
+    kind == 7
+}
+
+// Every one of so many entries from `first` on is a legal code.
+fn codes_legal(image: &[u8], list_at: usize, first: usize, count: usize) -> bool
+    requires { ⌜ (first + count ≤ entriesOf (now image)) × Placed (now image) (recordsAt (now image)) «list_at» ⌝ }
+    ensures { λ r. ⌜ r ≡ every legal (entries (now (image .entry)) first count) ⌝ }
+{
+    let mut at = first;
+    let mut left = count;
+    while 0 < left {
+        if !KeyCode::is_legal(entry(image, list_at, at)) {
+            return false;
+        }
+        at += 1;
+        left -= 1;
+    }
+    true
+}
+
+// Every one of so many entries from `first` on is below n.
+fn entries_lower(image: &[u8], list_at: usize, n: usize, first: usize, count: usize) -> bool
+    requires { ⌜ (first + count ≤ entriesOf (now image)) × Placed (now image) (recordsAt (now image)) «list_at» ⌝ }
+    ensures { λ r. ⌜ r ≡ every (λ k. ltb k n) (entries (now (image .entry)) first count) ⌝ }
+{
+    let mut at = first;
+    let mut left = count;
+    while 0 < left {
+        if n <= (entry(image, list_at, at) as usize) {
+            return false;
+        }
+        at += 1;
+        left -= 1;
+    }
+    true
+}
+
+// Every code in a record is legal.
+fn codes_good(image: &[u8], list_at: usize, act: Action) -> bool
+    requires { ⌜ (listEnd act ≤ entriesOf (now image)) × Placed (now image) (recordsAt (now image)) «list_at» ⌝ }
+    ensures { λ r. ⌜ r ≡ every legal (codesIn (now (image .entry)) act) ⌝ }
+{
+    match act {
+        Action::KeyCode(code) => KeyCode::is_legal(code),
+        Action::MultipleKeyCodes(first, count) => codes_legal(
+            image,
+            list_at,
+            first as usize,
+            count as usize,
+        ),
+        Action::NoOp => true,
+        Action::Trans => true,
+        Action::MultipleActions(_, _) => true,
+        Action::Layer(_) => true,
+        Action::DefaultLayer(_) => true,
+        Action::HoldTap(_, _, _) => true,
+    }
+}
+
+// Every record that record n names is lower.
+fn children_lower(image: &[u8], list_at: usize, n: usize, act: Action) -> bool
+    requires { ⌜ (listEnd act ≤ entriesOf (now image)) × Placed (now image) (recordsAt (now image)) «list_at» ⌝ }
+    ensures { λ r. ⌜ r ≡ every (λ k. ltb k n) (childrenIn (now (image .entry)) act) ⌝ }
+{
+    match act {
+        Action::MultipleActions(first, count) => entries_lower(
+            image,
+            list_at,
+            n,
+            first as usize,
+            count as usize,
+        ),
+        Action::HoldTap(_, hold, tap) => (hold as usize) < n && (tap as usize) < n,
+        Action::NoOp => true,
+        Action::Trans => true,
+        Action::KeyCode(_) => true,
+        Action::MultipleKeyCodes(_, _) => true,
+        Action::Layer(_) => true,
+        Action::DefaultLayer(_) => true,
+    }
+}
+
+// The action of record n.
+fn action_in(image: &[u8], records_at: usize, n: usize) -> Action
+    requires { ⌜ (n < recordsOf (now image)) × Placed (now image) «records_at» (listAt (now image)) ⌝ }
+    ensures { λ r. ⌜ r ≡ actionAt (now (image .entry)) n ⌝ }
+{
+    let kind = field(image, records_at, n, 0);
+    let a = field(image, records_at, n, 2);
+    let b = field(image, records_at, n, 4);
+    let c = field(image, records_at, n, 6);
+    action_of(kind, a, b, c)
+}
+
+// A MultipleActions with an entry.
+fn has_entry(image: &[u8], records_at: usize, n: usize) -> bool
+    requires { ⌜ (n < recordsOf (now image)) × Placed (now image) «records_at» (listAt (now image)) ⌝ }
+    ensures { λ r. ⌜ r ≡ hasEntry (now (image .entry)) n ⌝ }
+{
+    field(image, records_at, n, 0) == 4 && field(image, records_at, n, 4) != 0
+}
+
+// The last entry of a MultipleActions.
+fn last_entry(image: &[u8], records_at: usize, list_at: usize, n: usize) -> usize
+    requires { ⌜ Placed (now image) «records_at» «list_at» × Ready (now image) n × (hasEntry (now image) n ≡ true) ⌝ }
+    ensures { λ r. ⌜ r ≡ lastEntry (now (image .entry)) n ⌝ }
+{
+    let first = field(image, records_at, n, 2) as usize;
+    let count = field(image, records_at, n, 4) as usize;
+    entry(image, list_at, first + count - 1) as usize
+}
+
+// Whether record n is open, where it and every lower record keep the open rule: then only a last entry can be, and the
+// numbers fall from entry to entry.
+fn is_open(image: &[u8], records_at: usize, list_at: usize, n: usize) -> bool
+    requires { ⌜ Placed (now image) «records_at» «list_at» × Ready (now image) n × (settled (tree (now image) n) ≡ true) ⌝ }
+    ensures { λ r. ⌜ r ≡ open? (tree (now (image .entry)) n) ⌝ }
+{
+    let mut at = n;
+    while has_entry(image, records_at, at) {
+        at = last_entry(image, records_at, list_at, at);
+    }
+    field(image, records_at, at, 0) == 7
+}
+
+// Of so many entries from `first` on, none is open but perhaps the last.
+fn shut_but_last(
+    image: &[u8],
+    records_at: usize,
+    list_at: usize,
+    n: usize,
+    first: usize,
+    count: usize,
+) -> bool
+    requires { ⌜ Placed (now image) «records_at» «list_at» × Ready (now image) n × (first + count ≤ entriesOf (now image)) × (every (λ k. ltb k n) (entries (now image) first count) ≡ true) ⌝ }
+    ensures { λ r. ⌜ r ≡ shutButLast (named (tree (now (image .entry))) (entries (now (image .entry)) first count)) ⌝ }
+{
+    let mut at = first;
+    let mut left = count;
+    while 1 < left {
+        let e = entry(image, list_at, at);
+        if is_open(image, records_at, list_at, e as usize) {
+            return false;
+        }
+        at += 1;
+        left -= 1;
+    }
+    true
+}
+
+// Record n keeps the open rule.
+fn is_settled(image: &[u8], records_at: usize, list_at: usize, n: usize, act: Action) -> bool
+    requires { ⌜ Placed (now image) «records_at» «list_at» × (act ≡ actionAt (now image) n) × Ready (now image) n ⌝ }
+    ensures { λ r. ⌜ r ≡ settled (tree (now (image .entry)) n) ⌝ }
+{
+    match act {
+        Action::MultipleActions(first, count) => shut_but_last(
+            image,
+            records_at,
+            list_at,
+            n,
+            first as usize,
+            count as usize,
+        ),
+        Action::HoldTap(_, hold, tap) => {
+            let held = is_open(image, records_at, list_at, hold as usize);
+            let tapped = is_open(image, records_at, list_at, tap as usize);
+            both(!held, !tapped)
+        }
+        Action::NoOp => true,
+        Action::Trans => true,
+        Action::KeyCode(_) => true,
+        Action::MultipleKeyCodes(_, _) => true,
+        Action::Layer(_) => true,
+        Action::DefaultLayer(_) => true,
+    }
+}
+
+// The weight of record n: recursion over the records that it names, whose numbers are lower. An entry of kinds 0 to 2
+// weighs 1, which spares most calls.
+fn weigh(image: &[u8], records_at: usize, list_at: usize, n: usize) -> usize
+    requires { ⌜ Placed (now image) «records_at» «list_at» × Ready (now image) n ⌝ }
+    ensures { λ r. ⌜ r ≡ weight (tree (now (image .entry)) n) ⌝ }
+{
+    match action_in(image, records_at, n) {
+        Action::MultipleKeyCodes(_, count) => 1 + (count as usize),
+        Action::HoldTap(_, hold, tap) => {
+            1
+                + (weigh(image, records_at, list_at, hold as usize)
+                    + weigh(image, records_at, list_at, tap as usize))
+        }
+        Action::MultipleActions(first, count) => {
+            let mut sum = 1;
+            let mut at = first as usize;
+            let mut left = count as usize;
+            while 0 < left {
+                let e = entry(image, list_at, at) as usize;
+                let mut w = 1;
+                if 2 < field(image, records_at, e, 0) {
+                    w = weigh(image, records_at, list_at, e);
+                }
+                sum += w;
+                at += 1;
+                left -= 1;
+            }
+            sum
+        }
+        Action::NoOp => 1,
+        Action::Trans => 1,
+        Action::KeyCode(_) => 1,
+        Action::Layer(_) => 1,
+        Action::DefaultLayer(_) => 1,
+    }
+}
+
+// The first fault of record n, where every lower record is good. Kinds 0 to 2 weigh 1.
+fn record_fault(image: &[u8], records_at: usize, list_at: usize, listed: usize, n: usize) -> Fault
+    requires { ⌜ Placed (now image) «records_at» «list_at» × (listed ≡ entriesOf (now image)) × (n < recordsOf (now image)) × ((k : ℕ) → k < n → Good (now image) k) ⌝ }
+    ensures { λ r. ⌜ r ≡ recordFault (now (image .entry)) n ⌝ }
+{
+    let kind = field(image, records_at, n, 0);
+    let a = field(image, records_at, n, 2);
+    let b = field(image, records_at, n, 4);
+    let c = field(image, records_at, n, 6);
+    if !form_good(listed, kind, a, b, c) {
+        return Fault::At(Refusal::Record, n);
+    }
+    let act = action_of(kind, a, b, c);
+    if !codes_good(image, list_at, act) {
+        return Fault::At(Refusal::Code, n);
+    }
+    if !children_lower(image, list_at, n, act) {
+        return Fault::At(Refusal::Child, n);
+    }
+    if !is_settled(image, records_at, list_at, n, act) {
+        return Fault::At(Refusal::Nested, n);
+    }
+    if kind <= 2 {
+        return Fault::Fine;
+    }
+    if 64 < weigh(image, records_at, list_at, n) {
+        return Fault::At(Refusal::Weight, n);
+    }
+    Fault::Fine
+}
+
+// The first fault of the records.
+fn records_fault(
+    image: &[u8],
+    records_at: usize,
+    list_at: usize,
+    listed: usize,
+    records: usize,
+) -> Fault
+    requires { ⌜ Placed (now image) «records_at» «list_at» × (listed ≡ entriesOf (now image)) × (records ≡ recordsOf (now image)) ⌝ }
+    ensures { λ r. ⌜ r ≡ firstFault (recordFault (now (image .entry))) 0 records ⌝ }
+{
+    let mut n = 0;
+    while n < records {
+        let f = record_fault(image, records_at, list_at, listed, n);
+        let Fault::Fine = f else {
+            return f;
+        };
+        n += 1;
+    }
+    Fault::Fine
+}
+
+// Cells, then records.
+fn body_fault(image: &[u8], s: Shape) -> Fault
+    requires { ⌜ Framed (now image) × (s ≡ shapeOf (now image)) ⌝ }
+    ensures { λ r. ⌜ r ≡ bodyFault (now (image .entry)) ⌝ }
+{
+    let f = cells_fault(image, s.layers * s.rows * s.columns, s.records);
+    let Fault::Fine = f else {
+        return f;
+    };
+    records_fault(image, s.records_at, s.list_at, s.entries, s.records)
+}
+
+// Past Short: Header, Length, cells, records.
+fn image_fault(image: &[u8], s: Shape) -> Fault
+    requires { ⌜ (16 ≤ length (now image)) × (s ≡ shapeOf (now image)) × (s .entries < 65536) × (s .«list_at» < 65536) ⌝ }
+    ensures { λ r. ⌜ r ≡ faultOf (now (image .entry)) ⌝ }
+{
+    let size = s.list_at + 2 * s.entries;
+    let f = head_fault(image, s, image.len() == size);
+    let Fault::Fine = f else {
+        return f;
+    };
+    body_fault(image, s)
+}
+
+// The check: the header's numbers, or the first fault and its place.
+pub fn check(image: &[u8]) -> Checked
+    ensures { λ r. ⌜ r ≡ checkOf (now (image .entry)) ⌝ }
+{
+    if image.len() < 16 {
+        return Checked::Refused(Refusal::Short, 0);
+    }
+    let s = shape_of(image);
+    let Fault::At(refusal, place) = image_fault(image, s) else {
+        return Checked::Accepted(s);
+    };
+    Checked::Refused(refusal, place)
+}
