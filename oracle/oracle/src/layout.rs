@@ -3,13 +3,13 @@
 //! Assumes: whether an image is accepted is the paper's to say, since the Rust takes trees and has no
 //! images; an accepted one is laid out as trees for the Rust.
 
-use crate::guard::Guarded;
 use crate::paper::image::{self, Refusal};
-use crate::{codes, table, words};
+use crate::table::Tabled;
+use crate::{codes, words};
 use keyberon::layout::{Event, Layout};
 
 /// The image that calls are given: a layout over it, or its refusal.
-pub struct Keys(Result<Guarded<Layout>, Refusal>);
+pub struct Keys(Result<Tabled, Refusal>);
 
 impl Default for Keys {
     /// Before the first image an empty one stands.
@@ -20,18 +20,17 @@ impl Default for Keys {
 
 impl Keys {
     fn over(bytes: &[u8]) -> Self {
-        Keys(image::check(bytes).map(|parts| Guarded::new(Layout::new(table::layers(&parts)))))
+        Keys(image::check(bytes).map(|parts| Tabled::new(&parts)))
     }
 
     pub fn answer(&mut self, command: &[u8], rest: &[&[u8]]) -> Option<String> {
         match (command, rest) {
             (b"image", [bytes]) => {
                 *self = Keys::over(&words::hex(bytes)?);
-                Some(
-                    self.0
-                        .as_ref()
-                        .map_or_else(refused, |_| "accepted".to_string()),
-                )
+                Some(match &self.0 {
+                    Ok(_) => "accepted".to_string(),
+                    Err(refusal) => refusal.to_string(),
+                })
             }
             (b"p", [i, j]) => {
                 let event = Event::Press(words::byte(i)?, words::byte(j)?);
@@ -51,7 +50,7 @@ impl Keys {
     fn call(&mut self, call: impl FnOnce(&mut Layout) -> Vec<u8>) -> String {
         match &mut self.0 {
             Ok(layout) => layout.answer(|layout| answer_of(&call(layout))),
-            Err(refusal) => refused(refusal),
+            Err(refusal) => refusal.to_string(),
         }
     }
 }
@@ -62,14 +61,10 @@ fn answer_of(codes: &[u8]) -> String {
     format!("codes {}", words::to_hex(codes))
 }
 
-fn refused(refusal: &Refusal) -> String {
-    format!("refused {} {}", refusal.number, refusal.place)
-}
-
 #[cfg(test)]
 mod tests {
     use super::*;
-    use crate::paper::image::tests::Z;
+    use crate::paper::image::Z;
 
     /// The answers to lines, given one after the other.
     fn answers(keys: &mut Keys, lines: &[&str]) -> Vec<String> {

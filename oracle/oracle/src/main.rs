@@ -23,7 +23,7 @@ use std::process::ExitCode;
 const USAGE: &str = "\
 usage: oracle replay                             answer the script on standard input
        oracle names                              print the names and values of the key codes
-       oracle generate KIND COUNT SEED           print a script; KIND is: codes
+       oracle generate KIND COUNT SEED           print a script; KIND is: codes, image, areas
        oracle compare-names FILE..               hold the constants in these .rt files to the names
        oracle compare KIND N SEED -- COMMAND..   hold COMMAND's answers to the oracle's";
 

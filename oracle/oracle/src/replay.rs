@@ -6,6 +6,7 @@
 use crate::debouncer::Bounces;
 use crate::keyboard::Board;
 use crate::layout::Keys;
+use crate::paper::areas;
 use crate::{codes, guard, words};
 use std::io::{self, BufRead, BufWriter, Write};
 
@@ -48,9 +49,71 @@ impl Replay {
                 _ => None,
             },
             b"image" | b"p" | b"r" | b"t" | b"k" => self.keys.answer(command, rest),
+            b"areas" => match rest {
+                [operator, built_in] => {
+                    Some(in_use(&words::hex(operator)?, &words::hex(built_in)?))
+                }
+                _ => None,
+            },
             b"debounce" | b"scan" => self.bounces.answer(command, rest),
             b"report" | b"get" | b"set" => self.board.answer(command, rest),
             _ => None,
         }
+    }
+}
+
+/// The table in use is the paper's to say: the Rust has no images.
+fn in_use(operator: &[u8], built_in: &[u8]) -> String {
+    match areas::in_use(operator, built_in) {
+        Ok(found) => found.to_string(),
+        Err(refusal) => refusal.to_string(),
+    }
+}
+
+#[cfg(test)]
+mod tests {
+    use super::*;
+    use crate::paper::image::Z;
+
+    /// The answers to lines, given one after the other.
+    fn answers(lines: &[&str]) -> Vec<String> {
+        let mut replay = Replay::default();
+        let answer = |line: &&str| {
+            let answer = replay.answer(line.as_bytes());
+            answer.unwrap_or_else(|| UNREADABLE.to_string())
+        };
+        lines.iter().map(answer).collect()
+    }
+
+    #[test]
+    fn areas_are_answered() {
+        let z = words::to_hex(&Z);
+        let short = &z[..102];
+        for (line, answer) in [
+            (format!("areas {z} -"), "operator 52"),
+            (format!("areas {z}ff {z}"), "operator 52"),
+            (format!("areas - {z}00"), "built-in 52"),
+            (format!("areas {short} {z}"), "built-in 52"),
+            (format!("areas {short} -"), "refused 3 0"),
+            ("areas - -".to_string(), "refused 1 0"),
+            ("areas -".to_string(), UNREADABLE),
+            (format!("areas {z} {z} {z}"), UNREADABLE),
+            (format!("areas {z} {short}0"), UNREADABLE),
+        ] {
+            assert_eq!(answers(&[&line]), [answer], "{line}");
+        }
+    }
+
+    #[test]
+    fn areas_leave_the_image_and_its_layout() {
+        let z = words::to_hex(&Z);
+        let (image, areas) = (format!("image {z}"), format!("areas - {z}"));
+        let got = answers(&[&image, "p 0 0", "t", &areas, "t", "areas - -", "t"]);
+        let (found, refused) = ("built-in 52", "refused 1 0");
+        assert_eq!(
+            got[1..],
+            ["codes -", "codes -", found, "codes -", refused, "codes e0"]
+        );
+        assert_eq!(answers(&[&areas, "t"]), ["built-in 52", "refused 1 0"]);
     }
 }

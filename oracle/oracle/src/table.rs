@@ -1,58 +1,97 @@
-//! An accepted image laid out as the trees that keyberon's layout takes.
+//! An accepted image laid out as the trees that keyberon's layout takes, and the layout over them.
 //!
-//! Assumes: the image was accepted, so every record names lower ones and every code is legal. The trees
-//! are never given back: the Rust asks for references that last, and a run makes few tables.
+//! Assumes: the image was accepted, so every record names lower ones and every code is legal. The Rust asks
+//! for references that last for ever; here the trees last as long as the layout that walks them and go with
+//! it, so that a script may bring any number of images.
 
 use crate::codes;
+use crate::guard::Guarded;
 use crate::paper::image::Parts;
 use keyberon::action::Action;
 use keyberon::key_code::KeyCode;
-use keyberon::layout::Layers;
+use keyberon::layout::{Layers, Layout};
+use std::any::Any;
+use std::rc::Rc;
 
-pub fn layers(parts: &Parts) -> Layers {
-    let actions = actions(parts);
-    let cells: Vec<Action> = parts
-        .cells
-        .iter()
-        .map(|&cell| actions[usize::from(cell)])
-        .collect();
-    let layers = cells.chunks(parts.rows * parts.columns);
-    leak(layers.map(|layer| {
-        leak(
-            layer
-                .chunks(parts.columns)
-                .map(<[Action]>::to_vec)
-                .map(leak),
-        )
-    }))
+/// A fresh layout over a table, and the table's trees.
+pub struct Tabled {
+    layout: Guarded<Layout>,
+    /// Goes after the layout, since fields go in their order.
+    _trees: Trees,
 }
 
-/// The action of each record. A record's children come before it, so a copy of their actions serves.
-fn actions(parts: &Parts) -> Vec<Action> {
-    let mut done: Vec<Action> = Vec::with_capacity(parts.records.len());
-    for &[kind, a, b, c] in &parts.records {
-        let entries = |first: u16, count: u16| {
-            let first = usize::from(first);
-            parts.list[first..first + usize::from(count)].iter()
-        };
-        let named = |record: u16| done[usize::from(record)];
-        let action = match kind {
-            0 => Action::NoOp,
-            1 => Action::Trans,
-            2 => Action::KeyCode(code(a)),
-            3 => Action::MultipleKeyCodes(leak(entries(a, b).map(|&word| code(word)))),
-            4 => Action::MultipleActions(leak(entries(a, b).map(|&record| named(record)))),
-            5 => Action::Layer(a.into()),
-            6 => Action::DefaultLayer(a.into()),
-            _ => Action::HoldTap {
-                timeout: a,
-                hold: Box::leak(Box::new(named(b))),
-                tap: Box::leak(Box::new(named(c))),
-            },
-        };
-        done.push(action);
+impl Tabled {
+    pub fn new(parts: &Parts) -> Self {
+        let mut trees = Trees::default();
+        let layers = trees.layers(parts);
+        Tabled {
+            layout: Guarded::new(Layout::new(layers)),
+            _trees: trees,
+        }
     }
-    done
+
+    /// The answer of a call on the layout. The call must keep nothing of the layout: what it yields is text,
+    /// which holds no part of the trees.
+    pub fn answer(&mut self, call: impl FnOnce(&mut Layout) -> String) -> String {
+        self.layout.answer(call)
+    }
+}
+
+/// The memory of the trees, piece by piece.
+#[derive(Default)]
+struct Trees(Vec<Rc<dyn Any>>);
+
+impl Trees {
+    fn layers(&mut self, parts: &Parts) -> Layers {
+        let actions = self.actions(parts);
+        let cells = parts.cells.iter().map(|&cell| actions[usize::from(cell)]);
+        let cells: Vec<Action> = cells.collect();
+        let mut layers = Vec::new();
+        for layer in cells.chunks(parts.rows * parts.columns) {
+            let rows = layer.chunks(parts.columns);
+            let rows: Vec<&'static [Action]> = rows.map(|row| self.keep(row.to_vec())).collect();
+            layers.push(self.keep(rows));
+        }
+        self.keep(layers)
+    }
+
+    /// The action of each record. A record's children come before it, so a copy of their actions serves.
+    fn actions(&mut self, parts: &Parts) -> Vec<Action> {
+        let mut done: Vec<Action> = Vec::with_capacity(parts.records.len());
+        for &[kind, a, b, c] in &parts.records {
+            let entries = |first: u16, count: u16| {
+                let first = usize::from(first);
+                parts.list[first..first + usize::from(count)].iter()
+            };
+            let named = |record: u16| done[usize::from(record)];
+            let action = match kind {
+                0 => Action::NoOp,
+                1 => Action::Trans,
+                2 => Action::KeyCode(code(a)),
+                3 => Action::MultipleKeyCodes(self.keep(entries(a, b).map(|&word| code(word)))),
+                4 => Action::MultipleActions(self.keep(entries(a, b).map(|&word| named(word)))),
+                5 => Action::Layer(a.into()),
+                6 => Action::DefaultLayer(a.into()),
+                _ => Action::HoldTap {
+                    timeout: a,
+                    hold: &self.keep([named(b)])[0],
+                    tap: &self.keep([named(c)])[0],
+                },
+            };
+            done.push(action);
+        }
+        done
+    }
+
+    /// Keeps items, and hands out a reference that is good as long as these trees.
+    fn keep<T: 'static>(&mut self, items: impl IntoIterator<Item = T>) -> &'static [T] {
+        let items: Rc<Vec<T>> = Rc::new(items.into_iter().collect());
+        let stretch: *const [T] = items.as_slice();
+        self.0.push(items);
+        // Safety: the items are neither moved nor changed until the trees go, which they do after the layout,
+        // the only holder of the reference (see `Tabled`).
+        unsafe { &*stretch }
+    }
 }
 
 fn code(word: u16) -> KeyCode {
@@ -60,6 +99,46 @@ fn code(word: u16) -> KeyCode {
     codes::key_code(byte).expect("an accepted image has legal codes")
 }
 
-fn leak<T>(items: impl IntoIterator<Item = T>) -> &'static [T] {
-    Vec::leak(items.into_iter().collect())
+#[cfg(test)]
+mod tests {
+    use super::*;
+    use crate::generate::accepted_image;
+    use crate::paper::image::check;
+    use crate::random::Random;
+    use keyberon::layout::Event;
+
+    /// All keys pressed and released with ticks between, as text.
+    fn walked(tabled: &mut Tabled, parts: &Parts) -> Vec<String> {
+        let mut answers = Vec::new();
+        for key in 0..parts.rows * parts.columns {
+            let (row, column) = (key / parts.columns, key % parts.columns);
+            let (row, column) = (row as u8, column as u8);
+            for event in [Event::Press(row, column), Event::Release(row, column)] {
+                answers.push(
+                    tabled.answer(|layout| format!("{:?}", codes::bytes(layout.event(event)))),
+                );
+                answers.push(tabled.answer(|layout| format!("{:?}", codes::bytes(layout.tick()))));
+            }
+        }
+        answers
+    }
+
+    #[test]
+    fn tables_that_went_leave_the_others_alone() {
+        let mut random = Random::new(6);
+        let images: Vec<Parts> = (0..300)
+            .map(|_| check(&accepted_image(&mut random)).expect("an accepted image"))
+            .collect();
+        let mut all: Vec<Tabled> = images.iter().map(Tabled::new).collect();
+        let mut together: Vec<Vec<String>> = Vec::new();
+        for parts in images.iter().rev() {
+            let mut last = all.pop().expect("a layout for each image");
+            together.push(walked(&mut last, parts));
+        }
+        together.reverse();
+        let alone = images
+            .iter()
+            .map(|parts| walked(&mut Tabled::new(parts), parts));
+        assert!(together.into_iter().eq(alone));
+    }
 }

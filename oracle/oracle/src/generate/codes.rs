@@ -214,7 +214,7 @@ fn illegal_list(random: &mut Random) -> Vec<u8> {
     list
 }
 
-fn legal(random: &mut Random) -> u8 {
+pub fn legal(random: &mut Random) -> u8 {
     match random.below(193) {
         code @ 0..=0xA4 => code as u8,
         over => (0xE0 + over - 0xA5) as u8,
@@ -233,7 +233,7 @@ fn modifier(random: &mut Random) -> u8 {
     random.among(0xE0, 0xE7) as u8
 }
 
-fn illegal(random: &mut Random) -> u8 {
+pub fn illegal(random: &mut Random) -> u8 {
     match random.below(4) {
         0 => random.among(0xFC, 0xFF) as u8,
         _ => random.among(0xA5, 0xDF) as u8,

@@ -1,9 +1,18 @@
 //! Scripts from seeds. A kind of script is one file here: how its scripts are made and what it counts.
-//! To add one: write its file, and name it in `kind` and `sample` below.
+//! To add one: write its file, and name it in `kind` and `sample` below. The other files make what the kinds
+//! are about: tables (`draft`, `grow`, `weights`) and damage to them (`damage`, `spoil`).
 //!
 //! Assumes: the same kind, numbers and seed give the same scripts.
 
+mod areas;
 pub mod codes;
+mod damage;
+mod draft;
+mod grow;
+mod image;
+mod spoil;
+mod tally;
+mod weights;
 
 use crate::script::Script;
 
@@ -20,6 +29,8 @@ pub trait Kind {
 pub fn kind(name: &str, n: usize, seed: u64) -> Option<Box<dyn Kind>> {
     match name {
         "codes" => Some(Box::new(codes::Codes::new(n, seed))),
+        "image" => Some(Box::new(image::Images::new(n, seed))),
+        "areas" => Some(Box::new(areas::Pairs::new(n, seed))),
         _ => None,
     }
 }
@@ -28,6 +39,29 @@ pub fn kind(name: &str, n: usize, seed: u64) -> Option<Box<dyn Kind>> {
 pub fn sample(name: &str, count: usize, seed: u64) -> Option<Script> {
     match name {
         "codes" => Some(codes::sample(count, seed)),
+        "image" => Some(image::sample(count, seed)),
+        "areas" => Some(areas::sample(count, seed)),
         _ => None,
     }
+}
+
+/// An image that is accepted, any but the large ones.
+#[cfg(test)]
+pub fn accepted_image(random: &mut crate::random::Random) -> Vec<u8> {
+    grow::accepted(random, grow::Reach::Small).bytes()
+}
+
+/// How many bytes of long lines a script has, about.
+const BYTES_A_SCRIPT: usize = 20_000_000;
+
+/// A script of the lines that are left, or of as many as fit; nothing if none are left.
+fn fill(left: &mut usize, mut make: impl FnMut() -> Vec<u8>) -> Option<Script> {
+    let (mut lines, mut bytes) = (Vec::new(), 0);
+    while *left > 0 && bytes < BYTES_A_SCRIPT {
+        let line = make();
+        bytes += line.len();
+        lines.push(line);
+        *left -= 1;
+    }
+    (!lines.is_empty()).then(|| Script::new(lines))
 }

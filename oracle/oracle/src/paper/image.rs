@@ -8,13 +8,14 @@
 //! is not cut to 16 bits; list entries that no record names are not looked at.
 
 use super::report::is_legal;
+use std::fmt;
 
 const HEADER_BYTES: usize = 16;
 const HEAVIEST: u64 = 64;
 
 const SHORT: u8 = 1;
 const HEADER: u8 = 2;
-const LENGTH: u8 = 3;
+pub const LENGTH: u8 = 3;
 const CELL: u8 = 4;
 const RECORD: u8 = 5;
 const CODE: u8 = 6;
@@ -22,11 +23,31 @@ const CHILD: u8 = 7;
 const NESTED: u8 = 8;
 const WEIGHT: u8 = 9;
 
+/// Image Z of document 01, "Bench cases".
+pub const Z: [u8; 52] = [
+    1, 0, 1, 0, 1, 0, 2, 0, 4, 0, 0, 0, 0x14, 0, 0x34, 0, 3, 0, 1, 0, 0, 0, 0, 0, 0, 0, 0, 0, 2, 0,
+    0x2C, 0, 0, 0, 0, 0, 2, 0, 0xE0, 0, 0, 0, 0, 0, 7, 0, 3, 0, 2, 0, 1, 0,
+];
+
 /// Why an image is refused, and the cell or record that is at fault (0 where there is none).
 #[derive(Clone, Copy, Debug, PartialEq)]
 pub struct Refusal {
     pub number: u8,
     pub place: usize,
+}
+
+impl Refusal {
+    /// A refusal of the image as a whole.
+    pub fn whole(number: u8) -> Self {
+        Refusal { number, place: 0 }
+    }
+}
+
+impl fmt::Display for Refusal {
+    /// As scripts are answered.
+    fn fmt(&self, f: &mut fmt::Formatter) -> fmt::Result {
+        write!(f, "refused {} {}", self.number, self.place)
+    }
 }
 
 /// An image taken apart.
@@ -41,18 +62,11 @@ pub struct Parts {
 
 /// The parts of an accepted image, or the refusal.
 pub fn check(bytes: &[u8]) -> Result<Parts, Refusal> {
-    if bytes.len() < HEADER_BYTES {
-        return Err(whole(SHORT));
+    let sizes = sizes(bytes)?;
+    if bytes.len() != sizes.length() {
+        return Err(Refusal::whole(LENGTH));
     }
-    let words: Vec<u16> = bytes
-        .chunks_exact(2)
-        .map(|pair| u16::from_le_bytes([pair[0], pair[1]]))
-        .collect();
-    let sizes = Sizes::of(&words).ok_or(whole(HEADER))?;
-    if bytes.len() != sizes.list_offset() + 2 * sizes.entries {
-        return Err(whole(LENGTH));
-    }
-    let parts = sizes.parts(&words);
+    let parts = sizes.parts(&words(bytes));
     let faults = parts.faults();
     match faults.iter().min_by_key(|refusal| order(refusal)) {
         Some(first) => Err(*first),
@@ -60,8 +74,21 @@ pub fn check(bytes: &[u8]) -> Result<Parts, Refusal> {
     }
 }
 
-fn whole(number: u8) -> Refusal {
-    Refusal { number, place: 0 }
+/// The length in bytes of the image that begins so, by its header; refused if there is no legal one.
+pub fn length(bytes: &[u8]) -> Result<usize, Refusal> {
+    Ok(sizes(bytes)?.length())
+}
+
+fn sizes(bytes: &[u8]) -> Result<Sizes, Refusal> {
+    let header = bytes.get(..HEADER_BYTES).ok_or(Refusal::whole(SHORT))?;
+    Sizes::of(&words(header)).ok_or(Refusal::whole(HEADER))
+}
+
+fn words(bytes: &[u8]) -> Vec<u16> {
+    bytes
+        .chunks_exact(2)
+        .map(|pair| u16::from_le_bytes([pair[0], pair[1]]))
+        .collect()
 }
 
 /// Where a fault of a cell or record stands in the paper's order: cells first, then record by record, and
@@ -110,6 +137,10 @@ impl Sizes {
 
     fn list_offset(&self) -> usize {
         self.records_offset() + 8 * self.records
+    }
+
+    fn length(&self) -> usize {
+        self.list_offset() + 2 * self.entries
     }
 
     /// The parts of an image that has the length its header says.
@@ -250,15 +281,9 @@ impl Parts {
 }
 
 #[cfg(test)]
-pub mod tests {
+mod tests {
     use super::*;
     use crate::random::Random;
-
-    /// Image Z of document 01, "Bench cases".
-    pub const Z: [u8; 52] = [
-        1, 0, 1, 0, 1, 0, 2, 0, 4, 0, 0, 0, 0x14, 0, 0x34, 0, 3, 0, 1, 0, 0, 0, 0, 0, 0, 0, 0, 0,
-        2, 0, 0x2C, 0, 0, 0, 0, 0, 2, 0, 0xE0, 0, 0, 0, 0, 0, 7, 0, 3, 0, 2, 0, 1, 0,
-    ];
 
     /// A 1 by 1 image of one layer with these records and list.
     fn image(cell: u16, records: &[[u16; 4]], list: &[u16]) -> Vec<u8> {
