@@ -1,128 +1,226 @@
 // The test driver: reads a script from standard input, a command a line, and writes an answer a line, `?` for a line that
 // it cannot read. docs/REPLAY.md has the lines. `oracle replay` answers the same lines from the Rust, and the two are compared.
 // Assumes nothing.
+mod bounce;
 mod out;
+mod table;
 mod words;
+mod world;
 
 use codes::KbHidReport;
 use libc::STDIN_FILENO;
-use words::Hex;
-
-// How much of the line and of the answers is in their buffers. A line longer than its buffer counts one more than fits.
-struct Held {
-    line: usize,
-    out: usize,
-}
+use words::Bytes;
+use words::Words;
+use world::World;
+ghost use Prim.Native.Nat.{_≤_};
+ghost use lib.ListN.{length};
 
 struct Came {
     go: bool,
-    held: Held,
+    world: World,
 }
 
 // `codes HEX`: the report of these codes.
-fn answer_codes(word: &[u8], bytes: &mut [u8], out: &mut [u8], waiting: usize) -> usize {
-    let Hex::Bytes(n) = words::read_hex(word, bytes) else {
+fn answer_codes(word: &[u8], scratch: &mut [u8], out: &mut [u8], waiting: usize) -> usize {
+    let Bytes::Count(n) = words::read_hex(word, scratch) else {
         return out::put(out, waiting, b'?');
     };
-    let report = KbHidReport::from_codes(bytes, n);
+    let report = KbHidReport::from_codes(scratch, n);
     let b = report.bytes;
     out::put_hex(out, waiting, &b)
 }
 
-fn answer(line: &[u8], bytes: &mut [u8], out: &mut [u8], waiting: usize) -> usize {
-    if words::begins(line, b"codes ") && 6 <= line.len() {
-        return answer_codes(&line[6..], bytes, out, waiting);
+// The lines of the debouncer, by their commands.
+fn answer_bounce(line: &[u8], w: Words, scratch: &mut [u8], out: &mut [u8], world: World) -> World {
+    let command = words::word(line, w, 0);
+    let count = w.count;
+    if count == 2 && words::is(command, b"scan") {
+        return bounce::scan(line, w, scratch, out, world);
     }
-    out::put(out, waiting, b'?')
+    if count == 2 && words::is(command, b"update") {
+        return bounce::update(line, w, scratch, out, world);
+    }
+    if count == 1 && words::is(command, b"picture") {
+        return bounce::picture(out, world);
+    }
+    if count == 5 && words::is(command, b"debounce") {
+        return bounce::debounce(line, w, scratch, out, world);
+    }
+    if count == 7 && words::is(command, b"debouncer") {
+        return bounce::debouncer(line, w, scratch, out, world);
+    }
+    if count == 2 && words::is(command, b"space") {
+        return bounce::space(line, w, out, world);
+    }
+    world.wrote(out::put(out, world.out, b'?'))
 }
 
-// The answer to the first n bytes of `line`. A line that did not fit its buffer cannot be read.
-fn answer_part(line: &[u8], n: usize, bytes: &mut [u8], out: &mut [u8], waiting: usize) -> usize {
-    if n <= line.len() {
-        return answer(&line[..n], bytes, out, waiting);
+fn answer(
+    line: &[u8],
+    w: Words,
+    scratch: &mut [u8],
+    table: &mut [u8],
+    out: &mut [u8],
+    world: World,
+) -> World {
+    let command = words::word(line, w, 0);
+    let count = w.count;
+    if count == 2 && words::is(command, b"codes") {
+        return world.wrote(answer_codes(words::word(line, w, 1), scratch, out, world.out));
     }
-    out::put(out, waiting, b'?')
+    if count == 2 && words::is(command, b"image") {
+        return table::image(line, w, table, out, world);
+    }
+    if count == 3 && words::is(command, b"areas") {
+        return world.wrote(table::areas(line, w, scratch, out, world.out));
+    }
+    answer_bounce(line, w, scratch, out, world)
 }
 
-// The answer to the line that is held, and its newline.
-fn answer_held(line: &[u8], bytes: &mut [u8], out: &mut [u8], held: Held) -> Held {
-    let answered = answer_part(line, held.line, bytes, out, held.out);
-    let ended = out::put(out, answered, b'\n');
-    Held {
-        line: 0,
-        out: ended,
+// The answer to the line that is held. A line that did not fit its buffer cannot be read.
+fn answer_held(
+    line: &[u8],
+    scratch: &mut [u8],
+    table: &mut [u8],
+    out: &mut [u8],
+    world: World,
+) -> World {
+    if world.line <= line.len() {
+        let part = words::first(line, world.line);
+        return answer(part, words::split(part), scratch, table, out, world);
     }
+    world.wrote(out::put(out, world.out, b'?'))
 }
 
-fn feed(byte: u8, line: &mut [u8], bytes: &mut [u8], out: &mut [u8], held: Held) -> Held {
-    if byte == b'\n' {
-        return answer_held(line, bytes, out, held);
-    }
-    let n = held.line;
-    if n < line.len() {
-        line[n] = byte;
-        return Held {
-            line: n + 1,
-            out: held.out,
-        };
-    }
-    Held {
-        line: line.len() + 1,
-        out: held.out,
-    }
+// The answer, its newline, and no line.
+fn end_line(
+    line: &[u8],
+    scratch: &mut [u8],
+    table: &mut [u8],
+    out: &mut [u8],
+    world: World,
+) -> World {
+    let answered = answer_held(line, scratch, table, out, world);
+    let mut ended = answered.wrote(out::put(out, answered.out, b'\n'));
+    ended.line = 0;
+    ended
 }
 
-fn feed_all(input: &[u8], line: &mut [u8], bytes: &mut [u8], out: &mut [u8], held: Held) -> Held {
-    let mut now = held;
-    let mut i = 0;
+// Where the line that `at` is in ends: at its newline, or where the input does.
+fn line_end(input: &[u8], at: usize) -> usize
+    requires { ⌜ at ≤ length (now input) ⌝ }
+    ensures { λ r. ⌜ (at ≤ r) × (r ≤ length (now (input .entry))) ⌝ }
+{
+    let mut i = at;
     while i < input.len() {
-        now = feed(input[i], line, bytes, out, now);
+        if input[i] == b'\n' {
+            return i;
+        }
         i += 1;
+    }
+    i
+}
+
+// More bytes of a line that has n; past the buffer's end only that there are more.
+fn append(bytes: &[u8], line: &mut [u8], n: usize) -> usize {
+    let mut k = n;
+    let mut i = 0;
+    while i < bytes.len() {
+        if line.len() <= k {
+            return line.len() + 1;
+        }
+        line[k] = bytes[i];
+        k += 1;
+        i += 1;
+    }
+    k
+}
+
+// More bytes of a line, and its answer where it ends with them.
+fn take(
+    bytes: &[u8],
+    ends: bool,
+    line: &mut [u8],
+    scratch: &mut [u8],
+    table: &mut [u8],
+    out: &mut [u8],
+    world: World,
+) -> World {
+    let mut now = world;
+    now.line = append(bytes, line, world.line);
+    if ends {
+        return end_line(line, scratch, table, out, now);
+    }
+    now
+}
+
+fn feed(
+    input: &[u8],
+    line: &mut [u8],
+    scratch: &mut [u8],
+    table: &mut [u8],
+    out: &mut [u8],
+    world: World,
+) -> World {
+    let mut now = world;
+    let mut at = 0;
+    while at < input.len() {
+        let end = line_end(input, at);
+        let ends = end < input.len();
+        now = take(&input[at..end], ends, line, scratch, table, out, now);
+        at = end + 1;
     }
     now
 }
 
 // One read of standard input, and the answers to what it brought.
-fn turn(line: &mut [u8], bytes: &mut [u8], out: &mut [u8], held: Held) -> Came {
-    let mut input = io::buffer();
+fn turn(
+    line: &mut [u8],
+    scratch: &mut [u8],
+    table: &mut [u8],
+    out: &mut [u8],
+    world: World,
+) -> Came {
+    let mut input = io::large_buffer();
     let got = libc::read(STDIN_FILENO, &mut input);
     if got <= 0 {
-        return Came { go: false, held };
+        return Came { go: false, world };
     }
     let n = io::count(got, &input);
-    let now = feed_all(&input[..n], line, bytes, out, held);
+    let now = feed(&input[..n], line, scratch, table, out, world);
     Came {
         go: true,
-        held: now,
+        world: now,
     }
 }
 
 // The end of the input: a last line without newline counts.
-fn finish(line: &[u8], bytes: &mut [u8], out: &mut [u8], held: Held) {
-    if held.line == 0 {
-        out::flush(out, held.out);
+fn finish(line: &[u8], scratch: &mut [u8], table: &mut [u8], out: &mut [u8], world: World) {
+    if world.line == 0 {
+        out::flush(out, world.out);
         return;
     }
-    let last = answer_held(line, bytes, out, held);
+    let last = end_line(line, scratch, table, out, world);
     out::flush(out, last.out);
 }
 
-fn run(line: &mut [u8], bytes: &mut [u8], out: &mut [u8]) {
-    let mut held = Held { line: 0, out: 0 };
+fn run(line: &mut [u8], scratch: &mut [u8], table: &mut [u8], out: &mut [u8]) {
+    let mut world = World::new();
     let mut turns = u64::MAX;
     let mut go = true;
     while turns > 0 && go {
-        let came = turn(line, bytes, out, held);
-        held = came.held;
+        let came = turn(line, scratch, table, out, world);
+        world = came.world;
         go = came.go;
         turns -= 1;
     }
-    finish(line, bytes, out, held);
+    finish(line, scratch, table, out, world);
 }
 
 fn main() {
     let mut line = [0u8; 32768];
-    let mut bytes = [0u8; 16384];
+    let mut scratch = [0u8; 32768];
+    let mut table = [0u8; 16384];
     let mut out = io::large_buffer();
-    run(&mut line, &mut bytes, &mut out);
+    run(&mut line, &mut scratch, &mut table, &mut out);
 }

@@ -32,10 +32,46 @@ pub fn put_all(out: &mut [u8], waiting: usize, text: &[u8]) -> usize {
     at
 }
 
+// A number below 100,000, in decimal.
+pub fn put_number(out: &mut [u8], waiting: usize, n: usize) -> usize {
+    let a = put_place(out, waiting, n, 10000);
+    let b = put_place(out, a, n, 1000);
+    let c = put_place(out, b, n, 100);
+    let d = put_place(out, c, n, 10);
+    put(out, d, digit(n))
+}
+
+// The digit of n at a place, unless it is a leading zero.
+fn put_place(out: &mut [u8], waiting: usize, n: usize, unit: usize) -> usize {
+    if unit == 0 {
+        return waiting;
+    }
+    if n < unit {
+        return waiting;
+    }
+    put(out, waiting, digit(n / unit))
+}
+
+// The last decimal digit of n.
+fn digit(n: usize) -> u8 {
+    b'0' + (n % 10) as u8
+}
+
 // The last hex digit of n.
 fn glyph(n: u8) -> u8 {
     let d = n % 16;
     if d < 10 { b'0' + d } else { b'a' + (d - 10) }
+}
+
+// A decimal digit a byte.
+pub fn put_digits(out: &mut [u8], waiting: usize, bytes: &[u8]) -> usize {
+    let mut at = waiting;
+    let mut i = 0;
+    while i < bytes.len() {
+        at = put(out, at, glyph(bytes[i]));
+        i += 1;
+    }
+    at
 }
 
 // Two hex digits a byte.

@@ -1,14 +1,90 @@
-// The words of a script's line: the command it begins with, and bytes in hex. Lower case, single spaces, nothing else.
-// Assumes nothing.
+// The words of a script's line, parted by single spaces, and what they say: a command, a number, bytes in hex, a picture.
+// Everything is read strictly (docs/REPLAY.md). Assumes nothing.
+ghost use mathlib.Core.Path.{_≡_};
 
-// Whether `text` begins with `start`.
-pub fn begins(text: &[u8], start: &[u8]) -> bool {
-    if text.len() < start.len() {
+// Where the words of a line end. A line of more than eight words has none.
+pub struct Words {
+    pub count: usize,
+    pub ends: [usize; 8],
+}
+
+pub fn split(line: &[u8]) -> Words {
+    let mut words = Words {
+        count: 0,
+        ends: [0; 8],
+    };
+    let mut i = 0;
+    while i < line.len() {
+        if line[i] == b' ' {
+            words = with_end(words, i);
+        }
+        i += 1;
+    }
+    with_end(words, line.len())
+}
+
+// One word more; past the eighth there is no reading the line, and the count stays past it.
+fn with_end(words: Words, end: usize) -> Words {
+    let n = words.count;
+    let mut out = words;
+    if n < 8 {
+        out.ends[n] = end;
+        out.count = n + 1;
+    } else {
+        out.count = 9;
+    }
+    out
+}
+
+// Word k of a line, empty where there is none.
+pub fn word(line: &[u8], words: Words, k: usize) -> &[u8] {
+    if 8 <= k {
+        return &line[..0];
+    }
+    let ends = words.ends;
+    let end = ends[k];
+    let start = start_of(ends, k);
+    if start <= end && end <= line.len() {
+        return &line[start..end];
+    }
+    &line[..0]
+}
+
+fn start_of(ends: [usize; 8], k: usize) -> usize {
+    if k == 0 {
+        return 0;
+    }
+    if 8 < k {
+        return 0;
+    }
+    let space = ends[k - 1];
+    if space < usize::MAX { space + 1 } else { 0 }
+}
+
+// The first n bytes, or all where there are fewer.
+pub fn first(bytes: &[u8], n: usize) -> &[u8] {
+    if n <= bytes.len() {
+        return &bytes[..n];
+    }
+    bytes
+}
+
+// What is past the first n bytes.
+pub fn after(bytes: &[u8], n: usize) -> &[u8] {
+    if n <= bytes.len() {
+        return &bytes[n..];
+    }
+    &bytes[..0]
+}
+
+// Whether two words are the same.
+pub fn is(word: &[u8], other: &[u8]) -> bool {
+    if word.len() != other.len() {
         return false;
     }
     let mut i = 0;
-    while i < start.len() {
-        if text[i] != start[i] {
+    while i < word.len() && i < other.len() {
+        if word[i] != other[i] {
             return false;
         }
         i += 1;
@@ -22,9 +98,14 @@ enum Pair {
     Unread,
 }
 
-// What a word in hex says: so many bytes, or nothing that can be read.
-pub enum Hex {
-    Bytes(usize),
+// How many bytes a word says, or that it cannot be read.
+pub enum Bytes {
+    Count(usize),
+    Unread,
+}
+
+pub enum Number {
+    Is(usize),
     Unread,
 }
 
@@ -51,25 +132,87 @@ fn pair_of(first: u8, second: u8) -> Pair {
     Pair::Byte(high * 16 + low)
 }
 
+fn is_none(word: &[u8]) -> bool {
+    word.len() == 1 && word[0] == b'-'
+}
+
 // Reads a word of hex digits, two a byte, into `bytes`; `-` is the word of no byte.
-pub fn read_hex(word: &[u8], bytes: &mut [u8]) -> Hex {
-    if word.len() == 1 && word[0] == b'-' {
-        return Hex::Bytes(0);
+pub fn read_hex(word: &[u8], bytes: &mut [u8]) -> Bytes {
+    if is_none(word) {
+        return Bytes::Count(0);
     }
     let count = word.len() / 2;
     if count == 0 || word.len() % 2 != 0 {
-        return Hex::Unread;
+        return Bytes::Unread;
     }
     if bytes.len() < count {
-        return Hex::Unread;
+        return Bytes::Unread;
     }
     let mut i = 0;
     while i < count {
         let Pair::Byte(b) = pair_of(word[2 * i], word[2 * i + 1]) else {
-            return Hex::Unread;
+            return Bytes::Unread;
         };
         bytes[i] = b;
         i += 1;
     }
-    Hex::Bytes(count)
+    Bytes::Count(count)
+}
+
+// Reads a picture into `bytes`: a decimal digit a byte; `-` is the picture of no byte.
+pub fn read_picture(word: &[u8], bytes: &mut [u8]) -> Bytes {
+    if is_none(word) {
+        return Bytes::Count(0);
+    }
+    if word.len() == 0 || bytes.len() < word.len() {
+        return Bytes::Unread;
+    }
+    let mut i = 0;
+    while i < word.len() && i < bytes.len() {
+        let d = digit(word[i]);
+        if 9 < d {
+            return Bytes::Unread;
+        }
+        bytes[i] = d;
+        i += 1;
+    }
+    Bytes::Count(word.len())
+}
+
+// A decimal number of one to five digits, up to 65,535.
+pub fn read_number(word: &[u8]) -> Number {
+    if word.len() == 0 || 5 < word.len() {
+        return Number::Unread;
+    }
+    let mut n: usize = 0;
+    let mut i = 0;
+    while i < word.len() {
+        let Number::Is(more) = with_digit(n, word[i]) else {
+            return Number::Unread;
+        };
+        n = more;
+        i += 1;
+    }
+    Number::Is(n)
+}
+
+fn with_digit(n: usize, c: u8) -> Number {
+    let d = digit(c);
+    if 9 < d {
+        return Number::Unread;
+    }
+    if 6553 < n {
+        return Number::Unread;
+    }
+    let more = n * 10 + wide(d);
+    if 65535 < more {
+        return Number::Unread;
+    }
+    Number::Is(more)
+}
+
+pub fn wide(d: u8) -> usize
+    ensures { λ r. ⌜ r ≡ d ⌝ }
+{
+    d as usize
 }

@@ -6,10 +6,10 @@ use Rattle.replay.proofs.run.Statement.{statement}
 use Rattle.replay.proofs.run.Tie as tie
 
 abbrev Inv-loop : tie.InvT-loop
-Inv-loop line₀ bytes₀ out₀ held₀ turns₀ go₀ line bytes out held turns go = (length line ≡ length line₀) × (length bytes ≡ length bytes₀) × (length out ≡ length out₀)
+Inv-loop line₀ scratch₀ table₀ out₀ world₀ turns₀ go₀ line scratch table out world turns go = (length line ≡ length line₀) × (length scratch ≡ length scratch₀) × (length table ≡ length table₀) × (length out ≡ length out₀)
 
 abbrev μ-loop : tie.MeasureT-loop
-μ-loop line₀ bytes₀ out₀ held₀ turns₀ go₀ line bytes out held turns go = turns
+μ-loop line₀ scratch₀ table₀ out₀ world₀ turns₀ go₀ line scratch table out world turns go = turns
 
 pub run-spec : {M : Type 1} → statement M
 run-spec =
@@ -17,12 +17,14 @@ run-spec =
     (tie.spec
     Inv-loop
     μ-loop
+    (λ c κs. search needs)
     (λ c. search needs)
     (λ c κs. search needs)
     (λ c. search needs)
     (λ c. search needs)
     (λ c. search needs)
     (λ c κs. search needs)
+    (λ c. search needs)
     (λ c. search needs)
     (λ c. search needs)
     (λ c. search needs)

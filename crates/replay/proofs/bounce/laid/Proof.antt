@@ -1,23 +1,23 @@
--- `replay::words::begins` is safe and ends. Assumes nothing.
+-- `replay::bounce::laid` is safe and ends. Assumes nothing.
 use borrow.Author.Needs.{needs}
 use Prim.Native.Nat.{_≤_, _-_}
+use mathlib.Core.Path.{_≡_}
 use lib.ListN.{length}
-use Rattle.replay.proofs.words.begins.Statement.{statement}
-use Rattle.replay.proofs.words.begins.Tie as tie
+use Rattle.replay.proofs.bounce.laid.Statement.{statement}
+use Rattle.replay.proofs.bounce.laid.Tie as tie
 
 abbrev Inv-loop : tie.InvT-loop
-Inv-loop text start i₀ i = i ≤ length start
+Inv-loop bytes all₀ i₀ all i = (i ≤ length bytes) × (length all ≡ 128)
 
 abbrev μ-loop : tie.MeasureT-loop
-μ-loop text start i₀ i = length start - i
+μ-loop bytes all₀ i₀ all i = length bytes - i
 
-pub begins-spec : {M : Type 1} → statement M
-begins-spec =
+pub laid-spec : {M : Type 1} → statement M
+laid-spec =
     tie.close
     (tie.spec
     Inv-loop
     μ-loop
-    (λ c. search needs)
     (λ c. search needs)
     (λ c. search needs)
     (λ c. search needs)

@@ -1,0 +1,36 @@
+-- `replay::words::read_picture` is safe and ends. Assumes nothing.
+use borrow.Author.Needs.{needs}
+use Prim.Native.Nat.{_≤_, _-_, _*_}
+use mathlib.Core.Path.{_≡_}
+use lib.ListN.{length}
+use Rattle.replay.proofs.words.read_picture.Statement.{statement}
+use Rattle.replay.proofs.words.read_picture.Tie as tie
+
+abbrev Inv-loop : tie.InvT-loop
+Inv-loop word bytes₀ i₀ bytes i = (i ≤ length word) × (length bytes ≡ length bytes₀)
+
+abbrev μ-loop : tie.MeasureT-loop
+μ-loop word bytes₀ i₀ bytes i = length word - i
+
+pub read-picture-spec : {M : Type 1} → statement M
+read-picture-spec =
+    tie.close
+    (tie.spec
+    Inv-loop
+    μ-loop
+    (λ c κs. search needs)
+    (λ c. search needs)
+    (λ c. search needs)
+    (λ c. search needs)
+    (λ c. search needs)
+    (λ c κs. search needs)
+    (λ c. search needs)
+    (λ c. search needs)
+    (λ c. search needs)
+    (λ c. search needs)
+    (λ c. search needs)
+    (λ c. search needs)
+    (λ c. search needs)
+    (λ c. search needs)
+    (λ c. search needs)
+    (λ c. search needs))
