@@ -12,21 +12,7 @@ use lib.Seq.{drop-cons, take-suc, set-at, length-take-le, append-snoc, sets}
 use Rattle.event.specs.declared.Event.{Event}
 use Rattle.event.specs.declared.Event.the-variants.{Release, Press}
 use Rattle.event.specs.Bytes.{bytesOf}
-use Rattle.debounce.specs.Picture.{alike}
-
--- from a place on: equal there and then from the next place on; not equal there; none left
-module _ (a b : List ℕ) (i : ℕ) where
-  pub alike-on : i < length a → i < length b → getD a i 0 ≡ getD b i 0 → alike (drop i a) (drop i b) ≡ alike (drop (i + 1) a) (drop (i + 1) b)
-  unfolding alike
-  alike-on h g e = rw (add-one, drop-cons a i 0, drop-cons b i 0, eq-eqb (getD a i 0) (getD b i 0) e)
-
-  pub alike-fails : i < length a → i < length b → (getD a i 0 ≡ getD b i 0 → ⊥) → alike (drop i a) (drop i b) ≡ false
-  unfolding alike
-  alike-fails h g n = rw (drop-cons a i 0, drop-cons b i 0, ne-eqb (getD a i 0) (getD b i 0) n)
-
-  pub alike-none : length a ≤ i → length b ≤ i → alike (drop i a) (drop i b) ≡ true
-  unfolding alike
-  alike-none h g = rw (drop-of-length-le a h, drop-of-length-le b g)
+use Rattle.lists.specs.Lists.{alike}
 
 -- so many bytes of a scan, and zeros to the 128th place: one byte more
 pub pad-on : (scan : List ℕ) (i : ℕ) → i < length scan → length scan ≤ 128

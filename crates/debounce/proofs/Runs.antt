@@ -1,5 +1,4 @@
--- What holds of a debouncer from its making on: it is never refused State, whatever scans it is given; and the test on pictures
--- is equality. Assumes nothing.
+-- What holds of a debouncer from its making on: it is never refused State, whatever scans it is given. Assumes nothing.
 use Prim.Native.Nat.{ℕ, zero, suc, _+_, _-_, _*_, _<_, _≤_}
 use mathlib.Core.Bool.{Bool, true, false, cond, _&&_}
 use mathlib.Core.List.{List, [], _∷_, _++_, append-nil}
@@ -9,30 +8,15 @@ use borrow.Author.Tests.{le-leb, leb-true, ltb-false, eqb-true, eq-eqb}
 use lib.Dec.{leb, ltb, eqb}
 use lib.ListN.{length, take, drop, replicate}
 use lib.Seq.{take-at, drop-at}
-use Rattle.lists.specs.Lists.{every}
+use Rattle.lists.specs.Lists.{alike, every}
 use Rattle.lists.proofs.Laws.{both-true}
-use Rattle.debounce.specs.Picture.{alike, padded, binary, unused, isPicture, isScan}
+use Rattle.debounce.specs.Picture.{padded, binary, unused, isPicture, isScan}
 use Rattle.debounce.specs.Step as bounce
 use Rattle.refusal.specs.declared.Refusal.the-variants.{Scan, Bounce}
 use Rattle.debounce.specs.Calls.{switches, sizesGood, bounceGood, stateGood, makingVerdict, made, refusedMaking, bounceOf, withBounce, stepOf, rule}
 use Rattle.debounce.specs.declared.Debouncer.{Debouncer}
 use Rattle.debounce.specs.declared.Verdict.the-variants.{Fine}
 use Rattle.debounce.proofs.States.{scan-long}
-
--- pictures that pass the test are equal, and equal ones pass it
-pub alike-is : (a b : List ℕ) → alike a b ≡ true → a ≡ b
-unfolding alike
-alike-is [] [] e = refl
-alike-is [] (y ∷ b) e = cc
-alike-is (x ∷ a) [] e = cc
-alike-is (x ∷ a) (y ∷ b) e =
-    let h = both-true (eqb x y) (alike a b) e in
-    rw (eqb-true x y (h .0), alike-is a b (h .1))
-
-pub alike-self : (a : List ℕ) → alike a a ≡ true
-unfolding alike
-alike-self [] = refl
-alike-self (x ∷ a) = rw (eq-eqb x x refl) (alike-self a)
 
 zeros-unused : (m : ℕ) → every unused (replicate m 0) ≡ true
 unfolding every

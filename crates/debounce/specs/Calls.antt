@@ -8,7 +8,8 @@ use lib.ListN.{length, take, drop, replicate}
 use Rattle.refusal.specs.declared.Refusal.{Refusal}
 use Rattle.refusal.specs.declared.Refusal.the-variants.{Scan, Bounce, Room, State}
 use Rattle.event.specs.declared.Event.{Event}
-use Rattle.debounce.specs.Picture.{alike, allUp, padded, isPicture, isScan}
+use Rattle.lists.specs.Lists.{alike}
+use Rattle.debounce.specs.Picture.{allUp, padded, isPicture, isScan}
 use Rattle.debounce.specs.Step as bounce
 use Rattle.debounce.specs.Events.{changes, written}
 use Rattle.debounce.specs.declared.Debouncer.{Debouncer}

@@ -1,18 +1,11 @@
 -- Pictures: document 01, Debounce. A picture holds a number for each switch, row by row, 1 for down and 0 for up, in 128 places of
 -- which the unused are 0. Assumes nothing.
 use Prim.Native.Nat.{ℕ, _-_}
-use mathlib.Core.Bool.{Bool, true, false, _&&_}
-use mathlib.Core.List.{List, [], _∷_, _++_}
+use mathlib.Core.Bool.{Bool, _&&_}
+use mathlib.Core.List.{List, _++_}
 use lib.Dec.{eqb, leb}
 use lib.ListN.{length, take, drop, replicate}
 use Rattle.lists.specs.Lists.{every}
-
--- two pictures hold the same
-unfoldable pub alike : List ℕ → List ℕ → Bool
-alike [] [] = true
-alike [] (y ∷ ys) = false
-alike (x ∷ xs) [] = false
-alike (x ∷ xs) (y ∷ ys) = eqb x y && alike xs ys
 
 -- no switch is down
 abbrev pub allUp : List ℕ

@@ -5,9 +5,11 @@ use mathlib.Core.List.{List, [], _∷_, _++_}
 use mathlib.Core.Path.{_≡_, refl}
 use native.Mathlib.Numerals.{add-one}
 use native.Mathlib.Omega.{arith}
+use borrow.Author.Tests.{eq-eqb, ne-eqb, eqb-true}
+use lib.Dec.{eqb}
 use lib.ListN.{length, drop, getD, drop-of-length-le}
 use lib.Seq.{drop-cons}
-use Rattle.lists.specs.Lists.{count, every}
+use Rattle.lists.specs.Lists.{alike, count, every}
 
 -- both halves of a test that holds
 pub both-true : (a b : Bool) → a && b ≡ true → (a ≡ true) × (b ≡ true)
@@ -47,3 +49,32 @@ module _ {A : Type 0} (p : A → Bool) where
     pub every-none : length l ≤ i → every p (drop i l) ≡ true
     unfolding every
     every-none h = rw (drop-of-length-le l h)
+
+-- from a place on: equal there and then from the next place on; not equal there; none left
+module _ (a b : List ℕ) (i : ℕ) where
+  pub alike-on : i < length a → i < length b → getD a i 0 ≡ getD b i 0 → alike (drop i a) (drop i b) ≡ alike (drop (i + 1) a) (drop (i + 1) b)
+  unfolding alike
+  alike-on h g e = rw (add-one, drop-cons a i 0, drop-cons b i 0, eq-eqb (getD a i 0) (getD b i 0) e)
+
+  pub alike-fails : i < length a → i < length b → (getD a i 0 ≡ getD b i 0 → ⊥) → alike (drop i a) (drop i b) ≡ false
+  unfolding alike
+  alike-fails h g n = rw (drop-cons a i 0, drop-cons b i 0, ne-eqb (getD a i 0) (getD b i 0) n)
+
+  pub alike-none : length a ≤ i → length b ≤ i → alike (drop i a) (drop i b) ≡ true
+  unfolding alike
+  alike-none h g = rw (drop-of-length-le a h, drop-of-length-le b g)
+
+-- lists that pass the test are equal, and equal ones pass it
+pub alike-is : (a b : List ℕ) → alike a b ≡ true → a ≡ b
+unfolding alike
+alike-is [] [] e = refl
+alike-is [] (y ∷ b) e = cc
+alike-is (x ∷ a) [] e = cc
+alike-is (x ∷ a) (y ∷ b) e =
+    let h = both-true (eqb x y) (alike a b) e in
+    rw (eqb-true x y (h .0), alike-is a b (h .1))
+
+pub alike-self : (a : List ℕ) → alike a a ≡ true
+unfolding alike
+alike-self [] = refl
+alike-self (x ∷ a) = rw (eq-eqb x x refl) (alike-self a)

@@ -9,6 +9,13 @@ unfoldable pub has : ℕ → List ℕ → Bool
 has u [] = false
 has u (v ∷ vs) = eqb v u || has u vs
 
+-- two lists hold the same
+unfoldable pub alike : List ℕ → List ℕ → Bool
+alike [] [] = true
+alike [] (y ∷ ys) = false
+alike (x ∷ xs) [] = false
+alike (x ∷ xs) (y ∷ ys) = eqb x y && alike xs ys
+
 module _ {A : Type 0} where
   -- how many of the list pass the test
   unfoldable pub count : (A → Bool) → List A → ℕ

@@ -4,8 +4,8 @@ use Prim.Native.Nat.{_-_, _<_, _≤_}
 use mathlib.Core.Path.{_≡_, refl, sym, _∙_}
 use lib.ListN.{length, drop}
 use native.Mathlib.Omega.{arith}
-use Rattle.debounce.specs.Picture.{alike}
-use Rattle.debounce.proofs.Laws.{alike-on, alike-fails, alike-none}
+use Rattle.lists.specs.Lists.{alike}
+use Rattle.lists.proofs.Laws.{alike-on, alike-fails, alike-none}
 use Rattle.debounce.proofs.are_alike.Statement.{statement}
 use Rattle.debounce.proofs.are_alike.Tie as tie
 
