@@ -1,0 +1,16 @@
+-- `keyboard::Keyboard::report_descriptor` meets its contract. Assumes nothing.
+use borrow.Author.Needs.{needs}
+use mathlib.Core.Path.{refl}
+use Rattle.keyboard.specs.Keyboard.{descriptor}
+use Rattle.keyboard.proofs.Keyboard.report_descriptor.Statement.{statement}
+use Rattle.keyboard.proofs.Keyboard.report_descriptor.Tie as tie
+
+returns : tie.Need-returns
+unfolding descriptor
+returns c = refl
+
+pub report-descriptor-spec : {M : Type 1} → statement M
+report-descriptor-spec =
+    tie.close
+    (tie.spec
+    returns)

@@ -1,0 +1,5 @@
+pub mod Hid111
+pub mod Idle
+pub mod Walk
+pub mod Sorts
+pub mod Unique

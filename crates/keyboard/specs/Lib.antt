@@ -1,0 +1,2 @@
+pub mod Keyboard
+pub mod Hid111
