@@ -146,10 +146,6 @@ pub fn debouncer(line: &[u8], w: Words, scratch: &mut [u8], out: &mut [u8], worl
     set(line, w, accepted, candidate, out, world)
 }
 
-fn flag(yes: bool) -> u8 {
-    if yes { b'1' } else { b'0' }
-}
-
 fn updated(scan: &[u8], out: &mut [u8], world: World) -> World {
     let debouncer = world.debouncer;
     let updated = debouncer.update(scan);
@@ -158,7 +154,9 @@ fn updated(scan: &[u8], out: &mut [u8], world: World) -> World {
     match answer {
         Update::Changed(yes) => {
             let at = out::put_all(out, world.out, b"changed ");
-            world.bouncing(after).wrote(out::put(out, at, flag(yes)))
+            world
+                .bouncing(after)
+                .wrote(out::put(out, at, words::flag(yes)))
         }
         Update::Refused(refusal) => world
             .bouncing(after)

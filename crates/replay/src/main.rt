@@ -1,6 +1,7 @@
 // The test driver: reads a script from standard input, a command a line, and writes an answer a line, `?` for a line that
 // it cannot read. docs/REPLAY.md has the lines. `oracle replay` answers the same lines from the Rust, and the two are compared.
 // Assumes nothing.
+mod board;
 mod bounce;
 mod out;
 mod table;
@@ -30,7 +31,32 @@ fn answer_codes(word: &[u8], scratch: &mut [u8], out: &mut [u8], waiting: usize)
     out::put_hex(out, waiting, &b)
 }
 
-// The lines of the debouncer, by their commands.
+// The lines of the keyboard, by their commands.
+fn answer_board(line: &[u8], w: Words, scratch: &mut [u8], out: &mut [u8], world: World) -> World {
+    let command = words::word(line, w, 0);
+    let count = w.count;
+    if count == 2 && words::is(command, b"report") {
+        return board::report(line, w, scratch, out, world);
+    }
+    if count == 3 && words::is(command, b"get") {
+        return board::get(line, w, out, world);
+    }
+    if count == 4 && words::is(command, b"set") {
+        return board::set(line, w, scratch, out, world);
+    }
+    if count == 2 && words::is(command, b"rate") {
+        return board::rate(line, w, out, world);
+    }
+    if count == 2 && words::is(command, b"clock") {
+        return board::clock(line, w, out, world);
+    }
+    if count == 1 && words::is(command, b"descriptor") {
+        return board::descriptor(out, world);
+    }
+    world.wrote(out::put(out, world.out, b'?'))
+}
+
+// The lines of the debouncer, by their commands; then the keyboard's.
 fn answer_bounce(line: &[u8], w: Words, scratch: &mut [u8], out: &mut [u8], world: World) -> World {
     let command = words::word(line, w, 0);
     let count = w.count;
@@ -52,7 +78,7 @@ fn answer_bounce(line: &[u8], w: Words, scratch: &mut [u8], out: &mut [u8], worl
     if count == 2 && words::is(command, b"space") {
         return bounce::space(line, w, out, world);
     }
-    world.wrote(out::put(out, world.out, b'?'))
+    answer_board(line, w, scratch, out, world)
 }
 
 fn answer(
@@ -167,8 +193,9 @@ fn feed(
     while at < input.len() {
         let end = line_end(input, at);
         let ends = end < input.len();
+        let next = end + 1;
         now = take(&input[at..end], ends, line, scratch, table, out, now);
-        at = end + 1;
+        at = next;
     }
     now
 }

@@ -216,3 +216,21 @@ pub fn wide(d: u8) -> usize
 {
     d as usize
 }
+
+// A decimal number of one to three digits, up to 255.
+pub fn read_byte(word: &[u8]) -> Number {
+    if 3 < word.len() {
+        return Number::Unread;
+    }
+    let Number::Is(n) = read_number(word) else {
+        return Number::Unread;
+    };
+    if 255 < n {
+        return Number::Unread;
+    }
+    Number::Is(n)
+}
+
+pub fn flag(yes: bool) -> u8 {
+    if yes { b'1' } else { b'0' }
+}
