@@ -1,4 +1,4 @@
-// The lines of the keyboard: `report`, `get`, `set`, `rate`, `clock`, `descriptor`. Assumes nothing.
+// The lines of the keyboard: `report`, `get`, `set`, `rate`, `idling`, `clock`, `descriptor`. Assumes nothing.
 use super::out;
 use super::words;
 use super::words::Bytes;
@@ -115,6 +115,22 @@ pub fn rate(line: &[u8], w: Words, out: &mut [u8], world: World) -> World {
     world
         .typing(after)
         .wrote(out::put_all(out, world.out, b"rate"))
+}
+
+// `idling RATE COUNT`: the rate and the count as they stand, whatever the calls would make of them.
+pub fn idling(line: &[u8], w: Words, out: &mut [u8], world: World) -> World {
+    let Number::Is(rate) = words::read_byte(words::word(line, w, 1)) else {
+        return world.wrote(out::put(out, world.out, b'?'));
+    };
+    let Number::Is(count) = words::read_number(words::word(line, w, 2)) else {
+        return world.wrote(out::put(out, world.out, b'?'));
+    };
+    let mut keyboard = world.keyboard;
+    keyboard.idle = (rate % 256) as u8;
+    keyboard.count = (count % 65536) as u16;
+    world
+        .typing(keyboard)
+        .wrote(out::put_all(out, world.out, line))
 }
 
 struct Run {

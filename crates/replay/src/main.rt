@@ -47,6 +47,9 @@ fn answer_board(line: &[u8], w: Words, scratch: &mut [u8], out: &mut [u8], world
     if count == 2 && words::is(command, b"rate") {
         return board::rate(line, w, out, world);
     }
+    if count == 3 && words::is(command, b"idling") {
+        return board::idling(line, w, out, world);
+    }
     if count == 2 && words::is(command, b"clock") {
         return board::clock(line, w, out, world);
     }
