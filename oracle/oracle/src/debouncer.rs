@@ -1,92 +1,151 @@
-//! The lines over keyberon's debouncer: `debounce` and `scan`.
+//! The lines over keyberon's debouncer: `debounce`, `debouncer`, `scan`, `update`, `picture`, `space`.
 //!
-//! Assumes: the Rust takes pictures as arrays of arrays, a type for each size, so there is one debouncer
-//! type for each of the 8 by 16 sizes. What the Rust does not check, sizes, `nb_bounce` and pictures, is
-//! refused here by document 01's numbers before the Rust is asked.
+//! Assumes: what the Rust does not check, sizes, `nb_bounce`, pictures and room, is the paper's to refuse. A
+//! debouncer that `debounce` made is the Rust's and the paper's, side by side; one that `debouncer` set is the
+//! paper's alone, since the Rust's fields are private.
 
+use crate::both::agreed;
 use crate::guard::Guarded;
+use crate::paper::debounce::{laid, Debouncer as Paper, EVENT, PLACES};
 use crate::words;
 use keyberon::debounce::Debouncer;
 use keyberon::layout::Event;
 
-const SCAN: u8 = 10;
-const BOUNCE: u8 = 11;
-
-/// The debouncer in use and the number of switches in its picture.
+/// The debouncer in use and the length of the event buffer.
 pub struct Bounces {
-    engine: Guarded<Box<dyn Engine>>,
-    switches: usize,
+    paper: Paper,
+    rust: Option<Guarded<Box<dyn Engine>>>,
+    space: usize,
 }
 
 impl Default for Bounces {
-    /// All up, 1 by 1, `nb_bounce` 0: what stands at first and after a refused making.
+    /// Before the first `debounce` what a refused making gives.
     fn default() -> Self {
-        Bounces::new(1, 1, 0, &[0]).expect("the sizes are legal")
+        let paper = Paper::default();
+        Bounces {
+            rust: Some(fresh_engine(&paper)),
+            paper,
+            space: EVENT * PLACES,
+        }
     }
 }
 
 impl Bounces {
-    fn new(rows: usize, columns: usize, bounces: u16, picture: &[u8]) -> Option<Self> {
-        let engine = engine(rows, columns, bounces, picture)?;
-        Some(Bounces {
-            engine: Guarded::new(engine),
-            switches: rows * columns,
-        })
-    }
-
     pub fn answer(&mut self, command: &[u8], rest: &[&[u8]]) -> Option<String> {
         match (command, rest) {
             (b"debounce", [rows, columns, bounces, picture]) => {
-                let sizes = (words::number(rows)?.into(), words::number(columns)?.into());
-                let (bounces, picture) = (words::number(bounces)?, words::picture(picture)?);
-                let number = self.make(sizes, bounces, &picture);
+                let numbers = [rows, columns, bounces].map(|word| words::number(word));
+                let [rows, columns, bounces] = numbers;
+                let start = words::picture(picture)?;
+                let number = self.make(Paper::make(rows?, columns?, bounces?, &start));
                 Some(format!("made {number}"))
             }
+            (b"debouncer", [numbers @ .., accepted, candidate]) => {
+                self.paper = set(numbers, [accepted, candidate])?;
+                self.rust = None;
+                Some(words::line(command, rest))
+            }
             (b"scan", [picture]) => Some(self.scan(&words::picture(picture)?)),
+            (b"update", [picture]) => Some(self.update(&words::picture(picture)?)),
+            (b"picture", []) => Some(self.picture()),
+            (b"space", [length]) => {
+                self.space = words::number(length)?.into();
+                Some(words::line(command, rest))
+            }
             _ => None,
         }
     }
 
-    /// Makes the debouncer anew; 0 or the refusal's number.
-    fn make(&mut self, sizes: (usize, usize), bounces: u16, picture: &[u8]) -> u8 {
-        *self = Bounces::default();
-        let (rows, columns) = sizes;
-        if bounces == u16::MAX || !(1..=8).contains(&rows) || !(1..=16).contains(&columns) {
-            return BOUNCE;
-        }
-        if !is_picture(picture, rows * columns) {
-            return SCAN;
-        }
-        *self = Bounces::new(rows, columns, bounces, picture).expect("the sizes are legal");
-        0
+    /// Takes over a making; 0 or the refusal's number.
+    fn make(&mut self, made: Result<Paper, u8>) -> u8 {
+        let number = made.as_ref().err().copied().unwrap_or(0);
+        self.paper = made.unwrap_or_default();
+        self.rust = Some(fresh_engine(&self.paper));
+        number
     }
 
     fn scan(&mut self, picture: &[u8]) -> String {
-        if !is_picture(picture, self.switches) {
-            return format!("refused {SCAN}");
+        let events = |events: &[u8]| format!("events {}", words::to_hex(events));
+        match self.paper.events(picture, self.space) {
+            Ok(found) => self.beside(events(&found), |rust| events(&rust.events(picture))),
+            Err(number) => refused(number),
         }
-        self.engine
-            .answer(|engine| format!("events {}", words::to_hex(&engine.scan(picture))))
+    }
+
+    fn update(&mut self, picture: &[u8]) -> String {
+        let changed = |changed: bool| format!("changed {}", u8::from(changed));
+        match self.paper.update(picture) {
+            Ok(found) => self.beside(changed(found), |rust| changed(rust.update(picture))),
+            Err(number) => refused(number),
+        }
+    }
+
+    fn picture(&mut self) -> String {
+        let picture = |places: &[u8]| format!("picture {}", words::to_digits(places));
+        match self.paper.picture() {
+            Ok(found) => {
+                let found = picture(found);
+                self.beside(found, |rust| picture(&rust.picture()))
+            }
+            Err(number) => refused(number),
+        }
+    }
+
+    /// The paper's answer, held to the Rust's where the Rust has this debouncer too.
+    fn beside(&mut self, paper: String, rust: impl FnOnce(&mut dyn Engine) -> String) -> String {
+        match &mut self.rust {
+            Some(engine) => agreed(engine.answer(|engine| rust(engine.as_mut())), paper),
+            None => paper,
+        }
     }
 }
 
-fn is_picture(picture: &[u8], switches: usize) -> bool {
-    picture.len() == switches && picture.iter().all(|&switch| switch <= 1)
+fn refused(number: u8) -> String {
+    format!("refused {number}")
+}
+
+/// A debouncer as it stands, from its four numbers and two pictures of at most all places.
+fn set(numbers: &[&[u8]], pictures: [&[u8]; 2]) -> Option<Paper> {
+    let numbers: Option<Vec<u16>> = numbers.iter().map(|word| words::number(word)).collect();
+    let [rows, columns, nb_bounce, since] = numbers?.try_into().ok()?;
+    let [accepted, candidate] = pictures.map(|word| laid(&words::picture(word)?));
+    Some(Paper {
+        rows,
+        columns,
+        nb_bounce,
+        since,
+        accepted: accepted?,
+        candidate: candidate?,
+    })
 }
 
 /// A debouncer of one size.
 trait Engine {
     /// The events of a scan, three bytes each.
-    fn scan(&mut self, picture: &[u8]) -> Vec<u8>;
+    fn events(&mut self, picture: &[u8]) -> Vec<u8>;
+    fn update(&mut self, picture: &[u8]) -> bool;
+    /// The accepted picture in all its places, the unused ones 0.
+    fn picture(&self) -> Vec<u8>;
 }
 
 impl<const R: usize, const C: usize> Engine for Debouncer<[[bool; C]; R]> {
-    fn scan(&mut self, picture: &[u8]) -> Vec<u8> {
-        self.events(grid(picture)).flat_map(event_bytes).collect()
+    fn events(&mut self, picture: &[u8]) -> Vec<u8> {
+        let events = Debouncer::events(self, grid(picture));
+        events.flat_map(event_bytes).collect()
+    }
+
+    fn update(&mut self, picture: &[u8]) -> bool {
+        Debouncer::update(self, grid(picture))
+    }
+
+    fn picture(&self) -> Vec<u8> {
+        let mut places: Vec<u8> = self.get().iter().flatten().copied().map(u8::from).collect();
+        places.resize(PLACES, 0);
+        places
     }
 }
 
-fn event_bytes(event: Event) -> [u8; 3] {
+fn event_bytes(event: Event) -> [u8; EVENT] {
     let (i, j) = event.coord();
     [u8::from(matches!(event, Event::Press(..))), i, j]
 }
@@ -96,9 +155,16 @@ fn grid<const R: usize, const C: usize>(picture: &[u8]) -> [[bool; C]; R] {
     std::array::from_fn(|i| std::array::from_fn(|j| picture[i * C + j] == 1))
 }
 
-/// The debouncer of a legal size, or nothing. `new` takes the accepted picture and the candidate, equal at
-/// the start.
-fn engine(rows: usize, columns: usize, bounces: u16, picture: &[u8]) -> Option<Box<dyn Engine>> {
+/// The Rust's debouncer beside a fresh one of the paper's.
+fn fresh_engine(paper: &Paper) -> Guarded<Box<dyn Engine>> {
+    let sizes = (paper.rows, paper.columns);
+    let engine = engine(sizes, paper.nb_bounce, &paper.accepted);
+    Guarded::new(engine.expect("what was made has legal sizes"))
+}
+
+/// The debouncer of a legal size, or nothing: the Rust takes pictures as arrays of arrays, so there is a type
+/// for each size. `new` takes the accepted picture and the candidate, equal at the start.
+fn engine((rows, columns): (u16, u16), bounces: u16, picture: &[u8]) -> Option<Box<dyn Engine>> {
     fn make<const R: usize, const C: usize>(bounces: u16, picture: &[u8]) -> Box<dyn Engine> {
         let picture = grid::<R, C>(picture);
         Box::new(Debouncer::new(picture, picture, bounces))
@@ -126,47 +192,100 @@ fn engine(rows: usize, columns: usize, bounces: u16, picture: &[u8]) -> Option<B
 mod tests {
     use super::*;
 
-    fn scans(bounces: &mut Bounces, pictures: &[&[u8]]) -> Vec<String> {
-        pictures
-            .iter()
-            .map(|picture| bounces.scan(picture))
-            .collect()
+    /// The answers to lines, given one after the other.
+    fn answers(bounces: &mut Bounces, lines: &[&str]) -> Vec<String> {
+        let answer = |line: &&str| {
+            let words = words::split(line.as_bytes()).expect("a line of words");
+            let answer = bounces.answer(words[0], &words[1..]);
+            answer.unwrap_or_else(|| "?".to_string())
+        };
+        lines.iter().map(answer).collect()
     }
 
     #[test]
     fn the_change_comes_at_scan_nb_bounce_plus_1() {
         let mut bounces = Bounces::default();
-        assert_eq!(scans(&mut bounces, &[&[1]]), ["events 010000"]);
-        assert_eq!(bounces.make((1, 2), 2, &[0, 0]), 0);
-        let got = scans(&mut bounces, &[&[0, 1], &[0, 1], &[0, 1], &[0, 1]]);
-        assert_eq!(got, ["events -", "events -", "events 010001", "events -"]);
+        assert_eq!(answers(&mut bounces, &["scan 1"]), ["events 010000"]);
+        let got = answers(&mut bounces, &["debounce 1 2 2 00", "scan 01", "scan 01"]);
+        assert_eq!(got, ["made 0", "events -", "events -"]);
+        let got = answers(&mut bounces, &["scan 01", "scan 01"]);
+        assert_eq!(got, ["events 010001", "events -"]);
+        let got = answers(&mut bounces, &["update 11", "update 11", "update 11"]);
+        assert_eq!(got, ["changed 0", "changed 0", "changed 1"]);
+        let picture = format!("picture 11{}", "0".repeat(126));
+        assert_eq!(answers(&mut bounces, &["picture"]), [picture]);
     }
 
     #[test]
     fn refusals_come_in_order() {
         let mut bounces = Bounces::default();
-        assert_eq!(bounces.make((2, 2), 65_535, &[]), BOUNCE);
-        assert_eq!(bounces.make((9, 1), 0, &[]), BOUNCE);
-        assert_eq!(bounces.make((1, 0), 0, &[]), BOUNCE);
-        assert_eq!(bounces.make((2, 2), 65_534, &[0, 1, 2, 0]), SCAN);
-        assert_eq!(
-            scans(&mut bounces, &[&[0, 0], &[2], &[]]),
-            ["refused 10"; 3]
-        );
-        assert_eq!(scans(&mut bounces, &[&[1]]), ["events 010000"]);
+        let makings = [
+            "debounce 2 2 65535 -",
+            "debounce 9 1 0 -",
+            "debounce 1 0 0 -",
+            "debounce 2 2 65534 0120",
+        ];
+        let got = answers(&mut bounces, &makings);
+        assert_eq!(got, ["made 11", "made 11", "made 11", "made 10"]);
+        let got = answers(&mut bounces, &["scan 00", "scan 2", "update -"]);
+        assert_eq!(got, ["refused 10"; 3]);
+        let got = answers(&mut bounces, &["space 2", "scan 1", "scan 11"]);
+        assert_eq!(got, ["space 2", "refused 12", "refused 10"]);
+        let got = answers(&mut bounces, &["update 1", "space 3", "scan 0"]);
+        assert_eq!(got, ["changed 1", "space 3", "events 000000"]);
+    }
+
+    #[test]
+    fn a_debouncer_is_set_as_it_stands() {
+        let mut bounces = Bounces::default();
+        let got = answers(&mut bounces, &["debouncer 1 2 3 3 - 01", "scan 01"]);
+        assert_eq!(got, ["debouncer 1 2 3 3 - 01", "events 010001"]);
+        let illegal = "debouncer 1 2 3 4 - 01";
+        let got = answers(&mut bounces, &[illegal, "scan 2", "update 01", "picture"]);
+        assert_eq!(got[1..], ["refused 13"; 3]);
+        // a refused making gives a legal one
+        let got = answers(&mut bounces, &["debounce 0 0 0 -", "scan 1"]);
+        assert_eq!(got, ["made 11", "events 010000"]);
+    }
+
+    #[test]
+    fn a_debouncer_has_four_numbers_and_two_pictures_that_fit() {
+        let full = "0".repeat(128);
+        let longest = format!("debouncer 8 16 65535 65535 {full} {full}");
+        let too_long = format!("debouncer 8 16 0 0 {full}0 -");
+        let mut bounces = Bounces::default();
+        let got = answers(&mut bounces, &[&longest, &too_long, "picture"]);
+        assert_eq!(got, [&longest, "?", "refused 13"]);
+        for line in [
+            "debouncer 1 1 0 - -",
+            "debouncer 1 1 0 0 0 - -",
+            "space",
+            "picture 0",
+        ] {
+            assert_eq!(answers(&mut bounces, &[line]), ["?"], "{line}");
+        }
+    }
+
+    #[test]
+    fn a_difference_between_rust_and_paper_is_shown() {
+        let mut bounces = Bounces::default();
+        bounces.paper.nb_bounce = 1;
+        let got = answers(&mut bounces, &["scan 1"]);
+        assert_eq!(got, ["! rust: events 010000; paper: events -"]);
     }
 
     #[test]
     fn every_size_gives_events_row_by_row() {
         for (rows, columns) in (1..=8).flat_map(|r| (1..=16).map(move |c| (r, c))) {
-            let mut bounces = Bounces::default();
             let switches = rows * columns;
-            assert_eq!(bounces.make((rows, columns), 0, &vec![1; switches]), 0);
+            let make = format!("debounce {rows} {columns} 0 {}", "1".repeat(switches));
+            let scan = format!("scan {}", "0".repeat(switches));
             let wanted: Vec<u8> = (0..switches)
                 .flat_map(|at| [0, (at / columns) as u8, (at % columns) as u8])
                 .collect();
             let events = format!("events {}", words::to_hex(&wanted));
-            assert_eq!(bounces.scan(&vec![0; switches]), events);
+            let got = answers(&mut Bounces::default(), &[&make, &scan]);
+            assert_eq!(got, ["made 0", &events]);
         }
     }
 }

@@ -1,8 +1,10 @@
-//! The lines over keyberon's keyboard record: `report`, `get`, `set`.
+//! The lines of the keyboard: `report`, `get`, `set` and `descriptor` over keyberon's keyboard record, `rate`, `idling`
+//! and `clock` over the paper's idle clock beside it.
 //!
-//! Assumes: a fresh keyboard has a zero report and all LEDs off.
+//! Assumes: a fresh keyboard has a zero report, all LEDs off and idle rate 0.
 
 use crate::guard::Guarded;
+use crate::paper::idle::Idle;
 use crate::words;
 use keyberon::hid::{HidDevice, ReportType};
 use keyberon::key_code::KbHidReport;
@@ -46,6 +48,7 @@ impl Flags {
 pub struct Board {
     keyboard: Guarded<Keyboard<Flags>>,
     flags: Flags,
+    idle: Idle,
 }
 
 impl Default for Board {
@@ -54,6 +57,7 @@ impl Default for Board {
         Board {
             keyboard: Guarded::new(Keyboard::new(flags.clone())),
             flags,
+            idle: Idle::default(),
         }
     }
 }
@@ -70,16 +74,51 @@ impl Board {
                 let data = words::hex(data)?;
                 Some(self.set(words::byte(kind)?, words::byte(id)?, &data))
             }
+            (b"descriptor", []) => Some(self.descriptor()),
+            _ => self.clock_answer(command, rest),
+        }
+    }
+
+    /// The lines of the idle clock.
+    fn clock_answer(&mut self, command: &[u8], rest: &[&[u8]]) -> Option<String> {
+        match (command, rest) {
+            (b"rate", [rate]) => {
+                self.idle.rate = words::byte(rate)?;
+                self.idle.start();
+                Some("rate".to_string())
+            }
+            (b"idling", [rate, count]) => {
+                let (rate, count) = (words::byte(rate)?, words::number(count)?);
+                let line = [command, rest[0], rest[1]].join(&b' ');
+                self.idle = Idle { rate, count };
+                Some(String::from_utf8_lossy(&line).into_owned())
+            }
+            (b"clock", [calls]) => {
+                let due = (0..words::number(calls)?)
+                    .filter(|_| self.idle.clock())
+                    .count();
+                Some(format!("due {due} count {}", self.idle.count))
+            }
             _ => None,
         }
+    }
+
+    fn descriptor(&mut self) -> String {
+        self.keyboard.answer(|keyboard| {
+            format!("descriptor {}", words::to_hex(keyboard.report_descriptor()))
+        })
     }
 
     fn report(&mut self, bytes: [u8; 8]) -> String {
         // Safety: the report is a struct of nothing but these eight bytes, and any bytes are a report. The
         // Rust builds reports from key codes alone; the port takes whatever bytes its caller has.
         let report = unsafe { std::mem::transmute::<[u8; 8], KbHidReport>(bytes) };
+        let idle = &mut self.idle;
         self.keyboard.answer(|keyboard| {
             let changed = keyboard.set_keyboard_report(report);
+            if changed {
+                idle.start();
+            }
             format!("changed {}", u8::from(changed))
         })
     }

@@ -3,6 +3,7 @@
 //!
 //! Assumes: it is built with overflow checks and with panics that unwind, as the workspace says.
 
+mod both;
 mod codes;
 mod compare;
 mod debouncer;
@@ -23,7 +24,8 @@ use std::process::ExitCode;
 const USAGE: &str = "\
 usage: oracle replay                             answer the script on standard input
        oracle names                              print the names and values of the key codes
-       oracle generate KIND COUNT SEED           print a script; KIND is: codes, image, areas
+       oracle generate KIND COUNT SEED           print a script; KIND is: codes, image, areas,
+                                                 debounce, layout, states, keyboard
        oracle compare-names FILE..               hold the constants in these .rt files to the names
        oracle compare KIND N SEED -- COMMAND..   hold COMMAND's answers to the oracle's";
 

@@ -48,16 +48,19 @@ impl Replay {
                 [list] => Some(codes::report(&words::hex(list)?)),
                 _ => None,
             },
-            b"image" | b"p" | b"r" | b"t" | b"k" => self.keys.answer(command, rest),
             b"areas" => match rest {
                 [operator, built_in] => {
                     Some(in_use(&words::hex(operator)?, &words::hex(built_in)?))
                 }
                 _ => None,
             },
-            b"debounce" | b"scan" => self.bounces.answer(command, rest),
-            b"report" | b"get" | b"set" => self.board.answer(command, rest),
-            _ => None,
+            b"debounce" | b"debouncer" | b"scan" | b"update" | b"picture" | b"space" => {
+                self.bounces.answer(command, rest)
+            }
+            b"report" | b"get" | b"set" | b"rate" | b"idling" | b"clock" | b"descriptor" => {
+                self.board.answer(command, rest)
+            }
+            _ => self.keys.answer(command, rest),
         }
     }
 }
@@ -70,19 +73,27 @@ fn in_use(operator: &[u8], built_in: &[u8]) -> String {
     }
 }
 
+/// The answers to a script.
+#[cfg(test)]
+pub fn answers(script: &crate::script::Script) -> Vec<String> {
+    let mut replay = Replay::default();
+    let answer = |line: &Vec<u8>| {
+        let answer = replay.answer(line);
+        answer.unwrap_or_else(|| UNREADABLE.to_string())
+    };
+    script.lines.iter().map(answer).collect()
+}
+
 #[cfg(test)]
 mod tests {
     use super::*;
     use crate::paper::image::Z;
+    use crate::script::Script;
 
     /// The answers to lines, given one after the other.
     fn answers(lines: &[&str]) -> Vec<String> {
-        let mut replay = Replay::default();
-        let answer = |line: &&str| {
-            let answer = replay.answer(line.as_bytes());
-            answer.unwrap_or_else(|| UNREADABLE.to_string())
-        };
-        lines.iter().map(answer).collect()
+        let lines = lines.iter().map(|line| line.as_bytes().to_vec());
+        super::answers(&Script::new(lines.collect()))
     }
 
     #[test]
@@ -109,11 +120,9 @@ mod tests {
         let z = words::to_hex(&Z);
         let (image, areas) = (format!("image {z}"), format!("areas - {z}"));
         let got = answers(&[&image, "p 0 0", "t", &areas, "t", "areas - -", "t"]);
-        let (found, refused) = ("built-in 52", "refused 1 0");
-        assert_eq!(
-            got[1..],
-            ["codes -", "codes -", found, "codes -", refused, "codes e0"]
-        );
+        assert_eq!([&got[3], &got[5]], ["built-in 52", "refused 1 0"]);
+        assert_eq!(got[4], "codes - | acted - | decided -");
+        assert_eq!(got[6], "codes e0 | acted - | decided hold 0 0");
         assert_eq!(answers(&[&areas, "t"]), ["built-in 52", "refused 1 0"]);
     }
 }

@@ -19,6 +19,12 @@ pub fn split(line: &[u8]) -> Option<Vec<&[u8]>> {
     Some(words)
 }
 
+/// A line that was read, from its words, as it is given back. Words that were read are plain text.
+pub fn line(command: &[u8], rest: &[&[u8]]) -> String {
+    let words = [&[command], rest].concat();
+    String::from_utf8_lossy(&words.join(&b' ')).into_owned()
+}
+
 /// Bytes in lower-case hex, two digits each; `-` for none.
 pub fn hex(word: &[u8]) -> Option<Vec<u8>> {
     if word == b"-" {
@@ -66,6 +72,17 @@ pub fn picture(word: &[u8]) -> Option<Vec<u8>> {
     word.iter().map(|&byte| decimal_digit(byte)).collect()
 }
 
+/// A picture written as `picture` reads it; its places hold digits.
+pub fn to_digits(picture: &[u8]) -> String {
+    if picture.is_empty() {
+        return "-".to_string();
+    }
+    picture
+        .iter()
+        .map(|&place| (b'0' + place) as char)
+        .collect()
+}
+
 fn decimal_digit(byte: u8) -> Option<u8> {
     byte.is_ascii_digit().then(|| byte - b'0')
 }
@@ -107,6 +124,17 @@ mod tests {
         }
         assert_eq!(to_hex(&[4, 0xe1]), "04e1");
         assert_eq!(to_hex(&[]), "-");
+    }
+
+    #[test]
+    fn pictures_are_digits() {
+        assert_eq!(picture(b"-"), Some(vec![]));
+        assert_eq!(picture(b"0190"), Some(vec![0, 1, 9, 0]));
+        for word in [&b"--"[..], b"01a", b"0-"] {
+            assert_eq!(picture(word), None);
+        }
+        assert_eq!(to_digits(&[0, 1, 9, 0]), "0190");
+        assert_eq!(to_digits(&[]), "-");
     }
 
     #[test]

@@ -1,5 +1,5 @@
-//! Makes a script with a difference as short as it can: fewer lines, then fewer bytes in hex words, then
-//! lower bytes. Each try runs both sides.
+//! Makes a script with a difference as short as it can: fewer lines, then lower numbers, fewer bytes in hex
+//! words and lower bytes. Each try runs both sides.
 //!
 //! Assumes: any difference is as good as the first one. The time is limited: a script that could be still
 //! shorter is of more use than a long wait.
@@ -92,8 +92,23 @@ impl Shrinker<'_> {
         let words = self.best.lines[line].split(|&byte| byte == b' ').count();
         // the first word is the command
         for word in 1..words {
+            self.lower_number(line, word)?;
             self.drop_bytes(line, word)?;
             self.lower_bytes(line, word)?;
+        }
+        Ok(())
+    }
+
+    /// Lowers a decimal number: to 0, else as far as halving its distance from 0 goes.
+    fn lower_number(&mut self, line: usize, word: usize) -> io::Result<()> {
+        let found = words::number(self.word(line, word));
+        let mut number = found.unwrap_or(0);
+        let mut step = number;
+        while step > 0 && self.has_time() {
+            match number.checked_sub(step) {
+                Some(lower) if self.takes_word(line, word, &lower.to_string())? => number = lower,
+                _ => step /= 2,
+            }
         }
         Ok(())
     }
@@ -129,17 +144,25 @@ impl Shrinker<'_> {
         Ok(())
     }
 
+    fn word(&self, line: usize, word: usize) -> &[u8] {
+        let mut words = self.best.lines[line].split(|&byte| byte == b' ');
+        words.nth(word).unwrap_or_default()
+    }
+
     /// The bytes of a word; none if it is not hex.
     fn hex(&self, line: usize, word: usize) -> Vec<u8> {
-        let mut words = self.best.lines[line].split(|&byte| byte == b' ');
-        words.nth(word).and_then(words::hex).unwrap_or_default()
+        words::hex(self.word(line, word)).unwrap_or_default()
     }
 
     fn takes_hex(&mut self, line: usize, word: usize, bytes: &[u8]) -> io::Result<bool> {
-        let text = words::to_hex(bytes).into_bytes();
+        self.takes_word(line, word, &words::to_hex(bytes))
+    }
+
+    /// Takes the script with another word in a word's place over, if it still differs.
+    fn takes_word(&mut self, line: usize, word: usize, text: &str) -> io::Result<bool> {
         let mut lines = self.best.lines.clone();
         let mut words: Vec<&[u8]> = self.best.lines[line].split(|&byte| byte == b' ').collect();
-        words[word] = &text;
+        words[word] = text.as_bytes();
         lines[line] = words.join(&b' ');
         self.takes_lines(lines)
     }

@@ -2,8 +2,10 @@
 //! the first difference between two sides' answers.
 //!
 //! Assumes: nothing of the child; a wrong number of answers, a bad exit status and an answer without its
-//! newline are all differences.
+//! newline are all differences. So is an answer on which the oracle itself is of two minds, even if the other
+//! side gives the same: it may be the oracle too.
 
+use crate::both::MARK;
 use std::io::{self, Read, Write};
 use std::process::{Command, ExitStatus, Stdio};
 
@@ -52,14 +54,17 @@ pub fn first_difference(owed: usize, ours: &Answers, oracle: &Answers) -> Option
         let answers = side.bytes.iter().filter(|&&byte| byte == b'\n').count();
         side.status.success() && answers == owed && side.bytes.last().is_none_or(|&b| b == b'\n')
     };
-    if ours.bytes == oracle.bytes && well(ours) && well(oracle) {
+    if ours.bytes == oracle.bytes && well(ours) && well(oracle) && !oracle.is_marked() {
         return None;
     }
     let (ours_lines, oracle_lines) = (ours.lines(), oracle.lines());
     let most = ours_lines.len().max(oracle_lines.len());
-    let line = (0..most)
-        .find(|&at| at >= owed || ours_lines.get(at) != oracle_lines.get(at))
-        .unwrap_or(most);
+    let marked = |line: &&&[u8]| line.starts_with(MARK.as_bytes());
+    let differs = |at: usize| {
+        let answer = oracle_lines.get(at);
+        at >= owed || ours_lines.get(at) != answer || answer.filter(marked).is_some()
+    };
+    let line = (0..most).find(|&at| differs(at)).unwrap_or(most);
     Some(Difference {
         line,
         ours: ours.at(&ours_lines, line),
@@ -68,6 +73,13 @@ pub fn first_difference(owed: usize, ours: &Answers, oracle: &Answers) -> Option
 }
 
 impl Answers {
+    /// Whether an answer begins with the mark.
+    fn is_marked(&self) -> bool {
+        self.lines()
+            .iter()
+            .any(|line| line.starts_with(MARK.as_bytes()))
+    }
+
     /// The answers, each with its newline.
     fn lines(&self) -> Vec<&[u8]> {
         self.bytes.split_inclusive(|&byte| byte == b'\n').collect()
@@ -86,5 +98,35 @@ impl Answers {
             text += &format!(" ({})", self.status);
         }
         text
+    }
+}
+
+#[cfg(test)]
+mod tests {
+    use super::*;
+
+    /// The answers of a side that says what it is told.
+    fn saying(text: &str) -> Answers {
+        run(&["cat".to_string()], text.as_bytes(), true).expect("cat runs")
+    }
+
+    fn first(owed: usize, ours: &str, oracle: &str) -> Option<usize> {
+        let found = first_difference(owed, &saying(ours), &saying(oracle));
+        found.map(|difference| difference.line)
+    }
+
+    #[test]
+    fn differences_are_found_at_their_line() {
+        assert_eq!(first(2, "a\nb\n", "a\nb\n"), None);
+        assert_eq!(first(2, "a\nc\n", "a\nb\n"), Some(1));
+        assert_eq!(first(2, "a\n", "a\nb\n"), Some(1));
+        assert_eq!(first(1, "a\nb\n", "a\nb\n"), Some(1));
+        assert_eq!(first(2, "a\nb", "a\nb"), Some(2));
+    }
+
+    #[test]
+    fn an_oracle_of_two_minds_differs_from_everybody() {
+        assert_eq!(first(2, "a\n! b\n", "a\n! b\n"), Some(1));
+        assert_eq!(first(2, "a\nb !\n", "a\nb !\n"), None);
     }
 }

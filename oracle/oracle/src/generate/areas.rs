@@ -4,7 +4,7 @@
 //! Assumes: what an area is refused for is the paper's to say, for the closing line as for the answers.
 
 use super::grow::{accepted, Reach};
-use super::tally::{Tally, NUMBERS};
+use super::tally::{Tally, OF_IMAGES};
 use super::{fill, spoil, Kind};
 use crate::paper::areas::{in_use, InUse};
 use crate::random::Random;
@@ -59,7 +59,7 @@ impl Pairs {
             opening: true,
             operator: 0,
             built_in: 0,
-            refused: Tally::default(),
+            refused: Tally::of_images(),
         }
     }
 
@@ -70,7 +70,7 @@ impl Pairs {
         match in_use(&pair[0], &pair[1]) {
             Ok(InUse::Operator(_)) => self.operator += 1,
             Ok(InUse::BuiltIn(_)) => self.built_in += 1,
-            Err(refusal) => self.refused.add(&refusal),
+            Err(refusal) => self.refused.add(refusal.number),
         }
         line(&pair)
     }
@@ -112,7 +112,7 @@ fn line([operator, built_in]: &[Vec<u8>; 2]) -> Vec<u8> {
 }
 
 fn sorts() -> Vec<Sort> {
-    let refused = NUMBERS.map(Sort::Refused);
+    let refused = OF_IMAGES.map(Sort::Refused);
     [Sort::Accepted, Sort::Empty]
         .into_iter()
         .chain(refused)
@@ -212,7 +212,7 @@ mod tests {
         let scripts: Vec<Script> = std::iter::from_fn(|| pairs.next()).collect();
         assert_eq!(pairs.made, 10_000);
         assert!(pairs.operator > 800 && pairs.built_in > 800);
-        for number in NUMBERS {
+        for number in OF_IMAGES {
             assert!(pairs.refused.of(number) > 500, "{number}");
         }
         let lines: Vec<&Vec<u8>> = scripts.iter().flat_map(|script| &script.lines).collect();

@@ -84,7 +84,7 @@ impl Images {
             opening: true,
             images: 0,
             accepted: 0,
-            refused: Tally::default(),
+            refused: Tally::of_images(),
             others: 0,
         }
     }
@@ -94,7 +94,7 @@ impl Images {
         self.images += 1;
         match check(image) {
             Ok(_) => self.accepted += 1,
-            Err(refusal) => self.refused.add(&refusal),
+            Err(refusal) => self.refused.add(refusal.number),
         }
         line(image)
     }
@@ -204,7 +204,7 @@ fn pair(random: &mut Random) -> [u8; 2] {
 
 #[cfg(test)]
 mod tests {
-    use super::super::tally::NUMBERS;
+    use super::super::tally::OF_IMAGES;
     use super::*;
 
     const IMAGES: usize = 50_000;
@@ -218,7 +218,7 @@ mod tests {
     #[test]
     fn each_refusal_is_hit_often_enough() {
         let (images, scripts) = run(IMAGES, 1);
-        for number in NUMBERS {
+        for number in OF_IMAGES {
             let often = images.refused.of(number);
             assert!(often > IMAGES / 50, "{number}: {often}");
         }
@@ -231,7 +231,7 @@ mod tests {
     #[test]
     fn aims_are_mostly_met() {
         let mut random = Random::new(4);
-        for number in NUMBERS {
+        for number in OF_IMAGES {
             let met = |_: &i32| {
                 let image = spoil::refused(&mut random, Reach::Any, &[number]);
                 check(&image).is_err_and(|refusal| refusal.number == number)

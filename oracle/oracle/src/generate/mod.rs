@@ -1,5 +1,5 @@
-//! Scripts from seeds. A kind of script is one file here: how its scripts are made and what it counts.
-//! To add one: write its file, and name it in `kind` and `sample` below. The other files make what the kinds
+//! Scripts from seeds. A kind of script is one file or folder here: how its scripts are made and what it
+//! counts. To add one: write it, and name it in `kind` and `sample` below. The other files make what the kinds
 //! are about: tables (`draft`, `grow`, `weights`) and damage to them (`damage`, `spoil`).
 //!
 //! Assumes: the same kind, numbers and seed give the same scripts.
@@ -7,10 +7,14 @@
 mod areas;
 pub mod codes;
 mod damage;
+mod debounce;
 mod draft;
 mod grow;
 mod image;
+mod keyboard;
+mod layout;
 mod spoil;
+mod states;
 mod tally;
 mod weights;
 
@@ -31,6 +35,10 @@ pub fn kind(name: &str, n: usize, seed: u64) -> Option<Box<dyn Kind>> {
         "codes" => Some(Box::new(codes::Codes::new(n, seed))),
         "image" => Some(Box::new(image::Images::new(n, seed))),
         "areas" => Some(Box::new(areas::Pairs::new(n, seed))),
+        "debounce" => Some(Box::new(debounce::Scans::new(n, seed))),
+        "keyboard" => Some(Box::new(keyboard::Calls::new(n, seed))),
+        "layout" => Some(Box::new(layout::Traces::new(n, seed))),
+        "states" => Some(Box::new(states::States::new(n, seed))),
         _ => None,
     }
 }
@@ -41,6 +49,10 @@ pub fn sample(name: &str, count: usize, seed: u64) -> Option<Script> {
         "codes" => Some(codes::sample(count, seed)),
         "image" => Some(image::sample(count, seed)),
         "areas" => Some(areas::sample(count, seed)),
+        "debounce" => Some(debounce::sample(count, seed)),
+        "keyboard" => Some(keyboard::sample(count, seed)),
+        "layout" => Some(layout::sample(count, seed)),
+        "states" => Some(states::sample(count, seed)),
         _ => None,
     }
 }
@@ -49,6 +61,12 @@ pub fn sample(name: &str, count: usize, seed: u64) -> Option<Script> {
 #[cfg(test)]
 pub fn accepted_image(random: &mut crate::random::Random) -> Vec<u8> {
     grow::accepted(random, grow::Reach::Small).bytes()
+}
+
+/// An image that is accepted, with much of everything that a layout does.
+#[cfg(test)]
+pub fn lively_image(random: &mut crate::random::Random) -> Vec<u8> {
+    layout::tables::lively(random).bytes()
 }
 
 /// How many bytes of long lines a script has, about.

@@ -169,6 +169,10 @@ struct Known {
 }
 
 impl Parts {
+    pub fn layers(&self) -> usize {
+        self.cells.len() / (self.rows * self.columns)
+    }
+
     /// The faults 4 to 9, in no particular order.
     fn faults(&self) -> Vec<Refusal> {
         let mut faults = Vec::new();
@@ -237,7 +241,7 @@ impl Parts {
     }
 
     /// The list entries of a kind 3 or 4 in form.
-    fn entries(&self, place: usize) -> &[u16] {
+    pub fn entries(&self, place: usize) -> &[u16] {
         let [_, first, count, _] = self.records[place].map(usize::from);
         &self.list[first..first + count]
     }

@@ -1,6 +1,15 @@
 //! Second opinions, written from document 01 and nothing else: they answer where the Rust cannot, and
-//! where it can they are held to it by the tests.
+//! where it can they are held to it, by the tests or at every line.
 
 pub mod areas;
+pub mod calls;
+pub mod debounce;
+pub mod idle;
 pub mod image;
+pub mod layout;
 pub mod report;
+pub mod state;
+
+/// The refusals that calls on a debouncer and on a layout share.
+pub const ROOM: u8 = 12;
+pub const STATE: u8 = 13;
