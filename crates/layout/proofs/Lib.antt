@@ -1,0 +1,11 @@
+pub mod Pads
+pub mod Runs
+pub mod Codes
+pub mod Moves
+pub mod Presses
+pub mod States
+pub mod Calls
+pub mod Rooted
+pub mod Lawful
+pub mod Reach
+pub mod Unique

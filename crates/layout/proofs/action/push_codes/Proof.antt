@@ -1,0 +1,77 @@
+-- `layout::action::push_codes` meets its contract. Assumes nothing.
+use Prim.Native.Nat.{_+_}
+use mathlib.Core.Bool.{true}
+use mathlib.Core.Path.{_≡_, sym, _∙_}
+use native.Mathlib.Omega.{arith}
+use borrow.Author.Needs.{needs}
+use Rattle.codes.specs.Codes.{legal}
+use Rattle.image.specs.Words.{entries}
+use Rattle.lists.specs.Lists.{every}
+use Rattle.layout.specs.Actions.{pushCodes}
+use Rattle.image.proofs.Accepted.{entry-is, entry-not, entries-step, all-head, all-tail, code-byte}
+use Rattle.layout.proofs.Runs.{Left, left-start, left-step, left-end}
+use Rattle.layout.proofs.action.push_codes.Statement.{statement}
+use Rattle.layout.proofs.action.push_codes.Tie as tie
+
+abbrev Inv-loop : tie.InvT-loop
+Inv-loop image first count coord at₀ left₀ out₀ at left out =
+    (at + left ≡ first + count) × (every legal (entries image at left) ≡ true) × Left image out₀ out (pushCodes (entries image first count) coord) (pushCodes (entries image at left) coord)
+
+abbrev μ-loop : tie.MeasureT-loop
+μ-loop image first count coord at₀ left₀ out₀ at left out = left
+
+loop-holds : tie.Need-loop-holds Inv-loop μ-loop
+loop-holds c =
+    let s = c .before in
+    (omega arith, s .pre .1, left-start (s .args .image .now) (s .args .run) _ (s .pre .0))
+
+returns : tie.Need-returns Inv-loop μ-loop
+returns c =
+    let b = c .before .before .before .before in
+    absurd (omega (arith, entry-not _ _ (sym (c .before .before .entry-at .ensures) ∙ c .enum-told .given .1)))
+
+loop-again : tie.Need-loop-again Inv-loop μ-loop
+unfolding pushCodes
+loop-again c =
+    let b = c .before .before .before .before .before .before in
+    let img = b .before .before .args .image .now in
+    let inv = b .loop .inv in
+    let e = c .before .before .before .before .entry-at .ensures in
+    let h = entry-is img (b .loop .at) _ (sym e ∙ c .before .before .code .given .1) in
+    let step = entries-step img (b .loop .at) (b .loop .left) (c .before .before .before .before .before .loop-test .taken) in (
+      omega arith,
+      all-tail legal img (b .loop .at) (b .loop .left) (c .before .before .before .before .before .loop-test .taken) (inv .1),
+      left-step img (rw step at (inv .2)) (c .push-state .ensures img) (λ l. rw (h .1)),
+    )
+
+returns-2 : tie.Need-returns-2 Inv-loop μ-loop
+unfolding pushCodes entries
+returns-2 c =
+    let z : c .before .loop .left ≡ 0 = omega arith in
+    left-end (c .before .before .before .args .image .now) (c .before .loop .inv .2) (λ l. rw z)
+
+cast-code : tie.Need-cast-t12 Inv-loop μ-loop
+cast-code c =
+    let b = c .before .before .before .before .before in
+    let img = b .before .before .args .image .now in
+    let h = entry-is img (b .loop .at) _ (sym (c .before .before .before .entry-at .ensures) ∙ c .before .code .given .1) in
+    omega (arith, h .1, code-byte _ (all-head legal img (b .loop .at) (b .loop .left) (c .before .before .before .before .loop-test .taken) (b .loop .inv .1)))
+
+pub push-codes-spec : {M : Type 1} → statement M
+push-codes-spec =
+    tie.close
+    (tie.spec
+    Inv-loop
+    μ-loop
+    loop-holds
+    (λ c κs. search needs)
+    (λ c. search needs)
+    (λ c. search needs)
+    returns
+    cast-code
+    (λ c κs. search needs)
+    (λ c. search needs)
+    (λ c. search needs)
+    (λ c. search needs)
+    loop-again
+    returns-2)

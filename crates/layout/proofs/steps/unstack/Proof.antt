@@ -1,0 +1,75 @@
+-- `layout::steps::unstack` meets its contract. Assumes nothing.
+use mathlib.Core.List.{[]}
+use mathlib.Core.Path.{sym, ap, _∙_}
+use borrow.Author.Needs.{needs}
+use Rattle.layout.proofs.Presses.{press-acts}
+use Rattle.image.specs.declared.record.Cell.the-variants.{Record, Outside}
+use Rattle.layout.proofs.Runs.{does-then, does-nothing}
+use Rattle.layout.proofs.Moves.{did-of, did-as}
+use Rattle.image.specs.Table.{treeIn}
+use Rattle.layout.specs.Steps.{act}
+use Rattle.layout.specs.Actions.{doAction}
+use Rattle.layout.specs.Packed.{listIn}
+use Rattle.layout.proofs.steps.unstack.Statement.{statement}
+use Rattle.layout.proofs.steps.unstack.Tie as tie
+
+returns : tie.Need-returns
+unfolding doAction treeIn
+returns c =
+    let n = c .before .before .before .before .before .before in
+    let s = n .before .before in
+    let img = s .args .image .now in
+    let q = listIn (s .args .queue) in
+    let e = c .before .before .before .before .event2 .given in
+    press-acts img (s .args .layers) (s .args .run) (n .note-acted .result) (n .note-acted .result) q (s .args .stacked .event) _ _ (s .args .stacked .since) Outside (s .pre .3) (e .1) (n .note-acted .ensures img)
+    (ap (treeIn img) (sym (c .enum-told .given .1)) ∙ c .before .before .press-as-action .ensures q)
+    (did-of img q (does-nothing img (n .note-acted .result) (n .note-acted .ensures img .tidy)))
+
+returns-2 : tie.Need-returns-2
+unfolding act
+returns-2 c =
+    let n = c .before .before .before .before in
+    let s = n .before .before in
+    let img = s .args .image .now in
+    let q = listIn (s .args .queue) in
+    did-as img (did-of img q (does-then img (n .note-acted .ensures img) (c .release .ensures img))) (rw (c .before .before .event .given .1))
+
+returns-3 : tie.Need-returns-3
+unfolding treeIn
+returns-3 c =
+    let n = c .before .before .before .before .before .before .before .before .before in
+    let s = n .before .before in
+    let img = s .args .image .now in
+    let q = listIn (s .args .queue) in
+    let e = c .before .before .before .before .before .before .before .event2 .given in
+    press-acts img (s .args .layers) (s .args .run) (n .note-acted .result) (c .do-action .result) q (s .args .stacked .event) _ _ (s .args .stacked .since) (Record _) (s .pre .3) (e .1) (n .note-acted .ensures img)
+    (ap (treeIn img) (sym (c .before .before .before .n .given .1)) ∙ c .before .before .before .before .before .press-as-action .ensures q)
+    (rw (← c .before .find-release .ensures) (did-of img q (c .do-action .ensures)))
+
+release-requires : tie.Need-release-requires
+release-requires c κs = c .before .before .before .note-acted .ensures [] .tidy
+
+press-as-action-requires : tie.Need-press-as-action-requires
+press-as-action-requires c κs = (c .before .before .before .before .before .pre .0, c .before .before .before .note-acted .ensures [] .tidy)
+
+do-action-requires : tie.Need-do-action-requires
+do-action-requires c κs =
+    let s = c .before .before .before .before .before .before .before .before .before .before in
+    (s .pre .0, c .before .before .before .before .before .before .before .before .note-acted .ensures [] .tidy)
+
+pub unstack-spec : {M : Type 1} → statement M
+unstack-spec =
+    tie.close
+    (tie.spec
+    (λ c κs. search needs)
+    (λ c. search needs)
+    release-requires
+    (λ c. search needs)
+    press-as-action-requires
+    (λ c. search needs)
+    (λ c. search needs)
+    returns
+    (λ c κs. search needs)
+    do-action-requires
+    returns-2
+    returns-3)
