@@ -230,7 +230,7 @@ impl Layout {
         answer_of(evented(image, layers, parts_of(self), event), out)
     }
 
-    // A time event: to be called regularly, typically every millisecond.
+    // One tick of the clock, a millisecond on the panel.
     pub fn tick(self, image: &[u8], out: &mut [u8]) -> Answered
         ensures { λ r. ⌜ (r ≡ answered (judgedOf (now (image .entry)) self (length (now (out .entry)))) (tickOf (tableOf (now (image .entry))) (unpack (now (image .entry)) self)) self) × (now (out .exit) ≡ buffered (judgedOf (now (image .entry)) self (length (now (out .entry)))) (tickOf (tableOf (now (image .entry))) (unpack (now (image .entry)) self)) (now (out .entry))) ⌝ }
     {

@@ -1,0 +1,9 @@
+pub mod Cost
+pub mod Marks
+pub mod Actions
+pub mod Calls
+pub mod Drain
+pub mod Limits
+pub mod Answers
+pub mod Demand3
+pub mod Reached

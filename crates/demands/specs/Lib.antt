@@ -1,0 +1,5 @@
+pub mod Runs
+pub mod Answers
+pub mod Limits
+pub mod Demand3
+pub mod Reached
