@@ -8,4 +8,6 @@ pub mod Calls
 pub mod Rooted
 pub mod Lawful
 pub mod Reach
+pub mod Decisions
+pub mod Acts
 pub mod Unique

@@ -1,4 +1,5 @@
--- Running an action: document 01, Layout, its last paragraph but one on HoldTap, and the rules on DefaultLayer and the 65th state.
+-- Running an action: document 01, Layout, the last item of its list, and the rules of its first paragraph on DefaultLayer
+-- and on a full list of states. Each step leaves a `Done`, so that a later mark moves no shape.
 -- Assumes nothing.
 use Prim.Native.Nat.{ℕ, _-_}
 use mathlib.Core.Bool.{Bool, false, cond}
@@ -18,7 +19,7 @@ use Rattle.layout.specs.declared.queue.Found.{Found}
 use Rattle.layout.specs.declared.queue.Found.the-variants.{None, At}
 use Rattle.layout.specs.declared.queue.Stacked.{Stacked}
 
--- a 65th state is dropped
+-- one state more, if there is room: Layout, first paragraph
 unfoldable pub push : State → Model → Done
 push s l = cond (ltb (length (l .states)) 64) (still (withStates (l .states ++ (s ∷ [])) l)) (still l)
 
@@ -42,20 +43,19 @@ pub data Verdict : Type 0 where
   Open : Verdict
   Now : Way → Verdict
 
--- tap if timeout >= delay - age, else hold
+-- Layout, HoldTap: what the first queued release decides. Nothing is subtracted below 0
 unfoldable pub verdict : ℕ → ℕ → Found → Verdict
 verdict timeout delay None = Open
 verdict timeout delay (At age) = Now (cond (leb (delay - age) timeout) Tap Hold)
 
--- a hold-tap begins: it waits, or it is decided at once
+-- a hold-tap begins, and with a queued release it is decided in the same step
 abbrev pub begins : Verdict → Coord → Model → Done → Done → Done
 begins Open c waits tapped held = marked (Begun c) (still waits)
 begins (Now Tap) c waits tapped held = marked (Begun c) (marked (Decided c Tap) tapped)
 begins (Now Hold) c waits tapped held = marked (Begun c) (marked (Decided c Hold) held)
 
 -- an action runs in a table of n layers, at the coordinates c, with the delay d, where f is the first queued release of
--- them. HoldTap waits with timeout less delay, not below 0; the decided action runs with delay 0. DefaultLayer not below n
--- does nothing
+-- them. The queue is not changed, so f stays the same while an action and the hold-tap that it decides run each other
 unfoldable mutual
   pub doAction : Action → ℕ → Coord → ℕ → Found → Model → Done
   doAction NoOp n c d f l = still l
@@ -75,7 +75,7 @@ unfoldable mutual
   doActions end n c d f l = still l
   doActions (action & actions) n c d f l = let r = doAction action n c d f l in after r (doActions actions n c d f (r .layout))
 
--- a hold-tap is decided: its hold or its tap runs with delay 0
+-- a hold-tap is decided: Layout, HoldTap, its last sentence
 abbrev pub chosen : Way → Action → Action → Action
 chosen Tap hold tap = tap
 chosen Hold hold tap = hold

@@ -56,7 +56,7 @@ unpack img lay =
       queue = take (lay .queued) (lay .stacked);
     }
 
--- State: an illegal code
+-- State: the codes. A LayerModifier holds any word
 abbrev pub legalState : State → Bool
 legalState (NormalKey k c) = legal k
 legalState (LayerModifier v c) = true
@@ -64,13 +64,13 @@ legalState (LayerModifier v c) = true
 abbrev pub legalSlot : Slot → Bool
 legalSlot s = legalState (s .state)
 
--- State: a queued age above the one in front of it
+-- State: the ages of the queue, from the oldest on
 unfoldable pub falling : List Stacked → Bool
 falling [] = true
 falling (q ∷ []) = true
 falling (q ∷ (next ∷ qs)) = leb (next .since) (q .since) && falling (next ∷ qs)
 
--- State: a waiting record that is not a HoldTap of this table, or has more ticks left than its timeout
+-- State: what waits. A number past the last record is no HoldTap, since its tree is NoOp
 abbrev pub mayWait : Action → ℕ → Bool
 mayWait NoOp left = false
 mayWait Trans left = false
@@ -85,7 +85,7 @@ abbrev pub waitingGood : List ℕ → Waiting → Bool
 waitingGood img waiting.Nothing = true
 waitingGood img (waiting.On w) = mayWait (tree img (w .number)) (w .left)
 
--- State: an unused place that is not zero
+-- State: the unused places
 abbrev pub unusedState : State → Bool
 unusedState (NormalKey k c) = eqb k 0 && same c (record { i = 0; j = 0 })
 unusedState (LayerModifier v c) = false

@@ -5,6 +5,7 @@ use Prim.Native.Nat.{ℕ, _-_}
 use mathlib.Core.List.{List, [], _∷_, _++_, map}
 use lib.ListN.{length, take, drop, replicate}
 use Rattle.event.specs.declared.Coord.{Coord}
+use Rattle.event.specs.declared.Event.{Event}
 use Rattle.event.specs.declared.Event.the-variants.{Release}
 use Rattle.image.specs.Tree.{Action, NoOp, Trans, KeyCode, MultipleKeyCodes, MultipleActions, Layer, DefaultLayer, HoldTap, tree}
 use Rattle.layout.specs.Model.{Model, Waiting, Idle, Waits, Mark, Acted, Begun, Decided}
@@ -16,6 +17,7 @@ use Rattle.layout.specs.declared.run.Waiting.{Waiting as WaitingIn}
 use Rattle.layout.specs.declared.run.Waiting.the-variants as waiting
 use Rattle.layout.specs.declared.run.Decision.{Decision}
 use Rattle.layout.specs.declared.run.Decision.the-variants as decision
+use Rattle.layout.specs.declared.run.Acted.{Acted as ActedOn}
 use Rattle.layout.specs.declared.run.Acted.the-variants as acted
 use Rattle.layout.specs.declared.run.Notes.{Notes}
 use Rattle.layout.specs.declared.run.Run.{Run}
@@ -100,3 +102,28 @@ noted notes [] = notes
 noted notes (Acted e ∷ marks) = noted (record { acted = acted.On e; first = notes .first; second = notes .second }) marks
 noted notes (Begun c ∷ marks) = noted notes marks
 noted notes (Decided c way ∷ marks) = noted (noteDecision notes c way) marks
+
+-- the decisions that marks name, in their order, and those that notes name
+unfoldable pub decisions : List Mark → List (Coord × Way)
+decisions [] = []
+decisions (Acted e ∷ marks) = decisions marks
+decisions (Begun c ∷ marks) = decisions marks
+decisions (Decided c way ∷ marks) = (c, way) ∷ decisions marks
+
+abbrev pub made : Decision → List (Coord × Way)
+made decision.Nothing = []
+made (decision.Made c way) = (c, way) ∷ []
+
+abbrev pub madeIn : Notes → List (Coord × Way)
+madeIn notes = made (notes .first) ++ made (notes .second)
+
+-- the events that marks name as acted on, in their order, and the one that notes name
+unfoldable pub actedOn : List Mark → List Event
+actedOn [] = []
+actedOn (Acted e ∷ marks) = e ∷ actedOn marks
+actedOn (Begun c ∷ marks) = actedOn marks
+actedOn (Decided c way ∷ marks) = actedOn marks
+
+abbrev pub actedIn : ActedOn → List Event
+actedIn acted.Nothing = []
+actedIn (acted.On e) = e ∷ []

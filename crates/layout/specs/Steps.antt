@@ -30,12 +30,12 @@ unfoldable pub sum : List ℕ → ℕ
 sum [] = 0
 sum (x ∷ xs) = x + sum xs
 
--- the current layer: the sum of the held Layer numbers, or the default layer if none is held
+-- the current layer: Layout, first paragraph
 unfoldable pub current : ℕ → List ℕ → ℕ
 current base [] = base
 current base (x ∷ xs) = sum (x ∷ xs)
 
--- Trans takes the default layer's cell; a Trans there runs as Trans, which is nothing
+-- Trans: Layout, first paragraph. On the default layer it finds itself again, and running a Trans is nothing
 abbrev pub orDefault : Action → Action → Action
 orDefault Trans b = b
 -- every other action is its own, a NoOp outside the table too
@@ -59,7 +59,7 @@ coordIn (LayerModifier v c) = c
 abbrev pub stays : Coord → State → Bool
 stays c s = not (same c (coordIn s))
 
--- a release drops all states of its coordinates and keeps the others' order
+-- what a release leaves: Layout, the third item
 unfoldable pub release : Coord → List State → List State
 release c s = keep (stays c) s
 
@@ -67,7 +67,7 @@ release c s = keep (stays c) s
 abbrev pub runAt : Table → Action → Coord → ℕ → Model → Done
 runAt T action c delay l = doAction action (T .layers) c delay (find c (l .queue)) l
 
--- an event is acted on: a release drops states, a press runs its action with delay equal to its age
+-- an event is acted on: Layout, the third item. The age of a press is its action's delay
 unfoldable pub act : Table → Event → ℕ → Model → Done
 act T (Release i j) age l = marked (Acted (Release i j)) (still (withStates (release (record { i = i; j = j }) (l .states)) l))
 act T (Press i j) age l =
@@ -89,15 +89,15 @@ abbrev pub releases : Event → Waiting → Bool
 releases e Idle = false
 releases e (Waits c left i hold tap) = isRelease c e
 
--- event, its end: if the new event releases a waiting key, it becomes tap. The release stays queued
+-- event, its end: what waits for this release becomes tap. The queue keeps the release, which later drops the states
 unfoldable pub released : Table → Event → Model → Done
 released T e l = cond (releases e (l .waiting)) (intoTap T (l .waiting) l) (still l)
 
--- event, if 16 were queued: a waiting hold-tap becomes hold, then the oldest event, which left, is acted on
+-- event, with a full queue: what waits, then the event that left
 unfoldable pub overflow : Table → Stacked → Model → Done
 overflow T q l = let r = intoHold T (l .waiting) l in after r (act T (q .event) (q .since) (r .layout))
 
--- event, its start: append with age 0; if 16 were queued, the oldest leaves
+-- event, its start: the new event stands last
 abbrev pub appended : Event → List Stacked → List Stacked
 appended e q = q ++ (record { event = e; since = 0 } ∷ [])
 
@@ -111,19 +111,19 @@ entered T e (q ∷ qs) l =
 unfoldable pub event : Table → Event → Model → Done
 event T e l = let r = entered T e (l .queue) l in after r (released T e (r .layout))
 
--- tick, its start: every queued age grows by 1, stopping at 65,535
+-- tick, its start: the ages
 abbrev pub olderOne : Stacked → Stacked
 olderOne q = record { event = q .event; since = min (q .since + 1) 65535 }
 
 abbrev pub older : List Stacked → List Stacked
 older q = map olderOne q
 
--- tick, where something waits: at 0 ticks left it becomes hold; nothing else happens
+-- tick, where something waits with so many ticks left
 abbrev pub tickWait : Table → ℕ → Model → Done
 tickWait T zero l = intoHold T (l .waiting) l
 tickWait T (suc k) l = still l
 
--- tick, after the ages: what waits loses a tick, not below 0; otherwise the oldest event, if any, is acted on
+-- tick, after the ages: what waits comes first, and the queue only where nothing waits
 unfoldable pub ticked : Table → Waiting → List Stacked → Model → Done
 ticked T (Waits c left i hold tap) q l = tickWait T (left - 1) (withWaiting (Waits c (left - 1) i hold tap) (withQueue q l))
 ticked T Idle [] l = still (withQueue [] l)

@@ -5,19 +5,19 @@ use super::queue::Found;
 use super::run::Run;
 use super::run::State;
 use super::run::Waiting;
-use super::run::WaitingState;
 use super::run::Way;
 use super::run::note_decision;
+use super::run::push_key;
 use super::run::push_state;
+use super::run::wait_on;
 use super::run::with_default;
-use super::run::with_waiting;
 use event::Coord;
 use image::Action;
 use image::Entry;
 use image::action_at;
 use image::entry_at;
 ghost use mathlib.Core.Path.{_≡_};
-ghost use Prim.Native.Nat.{ℕ, _+_, _-_, _≤_, _<_};
+ghost use Prim.Native.Nat.{ℕ, _+_, _-_, _≤_};
 ghost use mathlib.Core.Bool.{cond, true};
 ghost use mathlib.Core.List.{List};
 ghost use Rattle.layout.specs.Model as Model;
@@ -31,6 +31,15 @@ ghost use Rattle.image.specs.Sound.{Sound};
 ghost use Rattle.layout.specs.Actions.{pushCodes, doAction, decided};
 ghost use Rattle.layout.specs.Packed.{holdOf, tapOf};
 ghost use Rattle.layout.specs.Inside.{Tidy, Does};
+
+// Where and how an action runs: in a table of so many layers, at the coordinates of its key, with its delay, and with the
+// first queued release of them.
+pub struct Press {
+    pub layers: usize,
+    pub coord: Coord,
+    pub delay: u16,
+    pub found: Found,
+}
 
 // A queued release decides: tap if timeout >= delay - age, else hold.
 fn tie(timeout: u16, delay: u16, since: u16) -> Way
@@ -80,13 +89,7 @@ fn push_codes(image: &[u8], run: Run, first: u16, count: u16, coord: Coord) -> R
         let Entry::Word(code) = entry_at(image, at) else {
             return out;
         };
-        out = push_state(
-            out,
-            State::NormalKey {
-                keycode: code as u8,
-                coord,
-            },
-        );
+        out = push_key(out, code, coord);
         at += 1;
         left -= 1;
     }
@@ -94,51 +97,34 @@ fn push_codes(image: &[u8], run: Run, first: u16, count: u16, coord: Coord) -> R
 }
 
 // A hold-tap is decided: it waits no more, and its hold or its tap runs with delay 0.
-pub(crate) fn decide(
-    image: &[u8],
-    layers: usize,
-    run: Run,
-    n: u16,
-    coord: Coord,
-    found: Found,
-    way: Way,
-) -> Run
+pub(crate) fn decide(image: &[u8], run: Run, n: u16, press: Press, way: Way) -> Run
     requires { ⌜ Sound (now image) × Tidy run ⌝ }
-    ensures { λ r. ⌜ Does (now (image .entry)) run r (decided way (holdOf (tree (now (image .entry)) n)) (tapOf (tree (now (image .entry)) n)) layers coord found) ⌝ }
+    ensures { λ r. ⌜ Does (now (image .entry)) run r (decided way (holdOf (tree (now (image .entry)) n)) (tapOf (tree (now (image .entry)) n)) (press .layers) (press .coord) (press .found)) ⌝ }
 {
+    let coord = press.coord;
     let quiet = settle(run, coord, way);
+    let mut now = press;
+    now.delay = 0;
     let Action::HoldTap(_, hold, tap) = action_at(image, n as usize) else {
         return quiet;
     };
     match way {
-        Way::Tap => do_action(image, layers, quiet, tap, coord, 0, found),
-        Way::Hold => do_action(image, layers, quiet, hold, coord, 0, found),
+        Way::Tap => do_action(image, quiet, tap, now),
+        Way::Hold => do_action(image, quiet, hold, now),
     }
 }
 
-// Runs record n at the coordinates, with the delay, where `found` is the first queued release of them.
-pub(crate) fn do_action(
-    image: &[u8],
-    layers: usize,
-    run: Run,
-    n: u16,
-    coord: Coord,
-    delay: u16,
-    found: Found,
-) -> Run
+// Runs record n.
+pub(crate) fn do_action(image: &[u8], run: Run, n: u16, press: Press) -> Run
     requires { ⌜ Sound (now image) × Tidy run ⌝ }
-    ensures { λ r. ⌜ Does (now (image .entry)) run r (doAction (tree (now (image .entry)) n) layers coord delay found) ⌝ }
+    ensures { λ r. ⌜ Does (now (image .entry)) run r (doAction (tree (now (image .entry)) n) (press .layers) (press .coord) (press .delay) (press .found)) ⌝ }
 {
+    let coord = press.coord;
+    let found = press.found;
     match action_at(image, n as usize) {
         Action::NoOp => run,
         Action::Trans => run,
-        Action::KeyCode(code) => push_state(
-            run,
-            State::NormalKey {
-                keycode: code as u8,
-                coord,
-            },
-        ),
+        Action::KeyCode(code) => push_key(run, code, coord),
         Action::MultipleKeyCodes(first, count) => push_codes(image, run, first, count, coord),
         Action::MultipleActions(first, count) => {
             let mut at = first as usize;
@@ -148,32 +134,17 @@ pub(crate) fn do_action(
                 let Entry::Word(k) = entry_at(image, at) else {
                     return out;
                 };
-                out = do_action(image, layers, out, k, coord, delay, found);
+                out = do_action(image, out, k, press);
                 at += 1;
                 left -= 1;
             }
             out
         }
         Action::Layer(value) => push_state(run, State::LayerModifier { value, coord }),
-        Action::DefaultLayer(value) => with_default(run, layers, value),
+        Action::DefaultLayer(value) => with_default(run, press.layers, value),
         Action::HoldTap(timeout, _, _) => match found {
-            Found::None => with_waiting(
-                run,
-                Waiting::On(WaitingState {
-                    coord,
-                    left: less(timeout, delay),
-                    number: n,
-                }),
-            ),
-            Found::At(since) => decide(
-                image,
-                layers,
-                run,
-                n,
-                coord,
-                found,
-                tie(timeout, delay, since),
-            ),
+            Found::None => wait_on(run, coord, less(timeout, press.delay), n),
+            Found::At(since) => decide(image, run, n, press, tie(timeout, press.delay, since)),
         },
     }
 }

@@ -5,8 +5,9 @@ use super::layout::Layout;
 use event::Coord;
 use event::Event;
 ghost use mathlib.Core.Path.{_≡_};
-ghost use Prim.Native.Nat.{ℕ, _+_, _≤_};
-ghost use mathlib.Core.Bool.{cond};
+ghost use Prim.Native.Nat.{ℕ, _≤_};
+ghost use Rattle.codes.specs.Codes.{legal};
+ghost use mathlib.Core.Bool.{true, cond};
 ghost use mathlib.Core.List.{List};
 ghost use lib.Dec.{ltb};
 ghost use lib.ListN.{length};
@@ -108,7 +109,36 @@ pub(crate) fn push_state(run: Run, state: State) -> Run
     run
 }
 
-pub(crate) fn with_waiting(run: Run, waiting: Waiting) -> Run
+// A key's code held.
+pub(crate) fn push_key(run: Run, code: u16, coord: Coord) -> Run
+    requires { ⌜ Tidy run × (legal code ≡ true) ⌝ }
+    ensures { λ r. ⌜ ((img : List ℕ) → Does img run r (push (State.NormalKey code coord))) ⌝ }
+{
+    push_state(
+        run,
+        State::NormalKey {
+            keycode: code as u8,
+            coord,
+        },
+    )
+}
+
+// A hold-tap waits.
+pub(crate) fn wait_on(run: Run, coord: Coord, left: u16, number: u16) -> Run
+    requires { ⌜ Tidy run ⌝ }
+    ensures { λ r. ⌜ ((img : List ℕ) → Does img run r (λ l. still (withWaiting (waitingOf img (Waiting.On (record { coord = coord; left = left; number = number }))) l))) ⌝ }
+{
+    with_waiting(
+        run,
+        Waiting::On(WaitingState {
+            coord,
+            left,
+            number,
+        }),
+    )
+}
+
+fn with_waiting(run: Run, waiting: Waiting) -> Run
     requires { ⌜ Tidy run ⌝ }
     ensures { λ r. ⌜ ((img : List ℕ) → Does img run r (λ l. still (withWaiting (waitingOf img waiting) l))) ⌝ }
 {

@@ -1,5 +1,6 @@
 // The steps of a layout: acting on an event, what waits becoming hold or tap, an event entered, a tick. Document 01, Layout.
 // Assumes nothing.
+use super::action::Press;
 use super::action::decide;
 use super::action::do_action;
 use super::action::less;
@@ -15,11 +16,10 @@ use super::run::Acted;
 use super::run::Notes;
 use super::run::Run;
 use super::run::Waiting;
-use super::run::WaitingState;
 use super::run::Way;
 use super::run::current_layer;
 use super::run::release;
-use super::run::with_waiting;
+use super::run::wait_on;
 use event::Coord;
 use event::Event;
 use image::Action;
@@ -100,7 +100,17 @@ fn unstack(image: &[u8], layers: usize, run: Run, queue: Queue, stacked: Stacked
                 return acting;
             };
             let found = find_release(queue, coord);
-            do_action(image, layers, acting, n, coord, since, found)
+            do_action(
+                image,
+                acting,
+                n,
+                Press {
+                    layers,
+                    coord,
+                    delay: since,
+                    found,
+                },
+            )
         }
     }
 }
@@ -117,7 +127,18 @@ fn waiting_into(image: &[u8], layers: usize, run: Run, queue: Queue, way: Way) -
     let coord = w.coord;
     let number = w.number;
     let found = find_release(queue, coord);
-    decide(image, layers, run, number, coord, found, way)
+    decide(
+        image,
+        run,
+        number,
+        Press {
+            layers,
+            coord,
+            delay: 0,
+            found,
+        },
+        way,
+    )
 }
 
 fn waiting_into_hold(image: &[u8], layers: usize, run: Run, queue: Queue) -> Run
@@ -197,14 +218,7 @@ pub(crate) fn ticked(image: &[u8], layers: usize, parts: Parts) -> Parts
         Waiting::On(w) => {
             let coord = w.coord;
             let left = less(w.left, 1);
-            let next = with_waiting(
-                run,
-                Waiting::On(WaitingState {
-                    coord,
-                    left,
-                    number: w.number,
-                }),
-            );
+            let next = wait_on(run, coord, left, w.number);
             if 0 < left {
                 return Parts { run: next, queue };
             }

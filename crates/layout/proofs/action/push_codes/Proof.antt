@@ -1,14 +1,14 @@
 -- `layout::action::push_codes` meets its contract. Assumes nothing.
 use Prim.Native.Nat.{_+_}
 use mathlib.Core.Bool.{true}
-use mathlib.Core.Path.{_≡_, sym, _∙_}
+use mathlib.Core.Path.{_≡_, sym, ap, _∙_}
 use native.Mathlib.Omega.{arith}
 use borrow.Author.Needs.{needs}
 use Rattle.codes.specs.Codes.{legal}
 use Rattle.image.specs.Words.{entries}
 use Rattle.lists.specs.Lists.{every}
 use Rattle.layout.specs.Actions.{pushCodes}
-use Rattle.image.proofs.Accepted.{entry-is, entry-not, entries-step, all-head, all-tail, code-byte}
+use Rattle.image.proofs.Accepted.{entry-is, entry-not, entries-step, all-head, all-tail}
 use Rattle.layout.proofs.Runs.{Left, left-start, left-step, left-end}
 use Rattle.layout.proofs.action.push_codes.Statement.{statement}
 use Rattle.layout.proofs.action.push_codes.Tie as tie
@@ -36,12 +36,12 @@ loop-again c =
     let b = c .before .before .before .before .before .before in
     let img = b .before .before .args .image .now in
     let inv = b .loop .inv in
-    let e = c .before .before .before .before .entry-at .ensures in
-    let h = entry-is img (b .loop .at) _ (sym e ∙ c .before .before .code .given .1) in
-    let step = entries-step img (b .loop .at) (b .loop .left) (c .before .before .before .before .before .loop-test .taken) in (
+    let some = c .before .before .before .before .before .loop-test .taken in
+    let h = entry-is img (b .loop .at) _ (sym (c .before .before .before .before .entry-at .ensures) ∙ c .before .before .code .given .1) in
+    let step = entries-step img (b .loop .at) (b .loop .left) some in (
       omega arith,
-      all-tail legal img (b .loop .at) (b .loop .left) (c .before .before .before .before .before .loop-test .taken) (inv .1),
-      left-step img (rw step at (inv .2)) (c .push-state .ensures img) (λ l. rw (h .1)),
+      all-tail legal img (b .loop .at) (b .loop .left) some (inv .1),
+      left-step img (rw step at (inv .2)) (c .push-key .ensures img) (λ l. rw (h .1)),
     )
 
 returns-2 : tie.Need-returns-2 Inv-loop μ-loop
@@ -50,12 +50,12 @@ returns-2 c =
     let z : c .before .loop .left ≡ 0 = omega arith in
     left-end (c .before .before .before .args .image .now) (c .before .loop .inv .2) (λ l. rw z)
 
-cast-code : tie.Need-cast-t12 Inv-loop μ-loop
-cast-code c =
+push-key-requires : tie.Need-push-key-requires Inv-loop μ-loop
+push-key-requires c κs =
     let b = c .before .before .before .before .before in
     let img = b .before .before .args .image .now in
     let h = entry-is img (b .loop .at) _ (sym (c .before .before .before .entry-at .ensures) ∙ c .before .code .given .1) in
-    omega (arith, h .1, code-byte _ (all-head legal img (b .loop .at) (b .loop .left) (c .before .before .before .before .loop-test .taken) (b .loop .inv .1)))
+    (b .loop .inv .2 .tidy, ap legal (h .1) ∙ all-head legal img (b .loop .at) (b .loop .left) (c .before .before .before .before .loop-test .taken) (b .loop .inv .1))
 
 pub push-codes-spec : {M : Type 1} → statement M
 push-codes-spec =
@@ -68,8 +68,7 @@ push-codes-spec =
     (λ c. search needs)
     (λ c. search needs)
     returns
-    cast-code
-    (λ c κs. search needs)
+    push-key-requires
     (λ c. search needs)
     (λ c. search needs)
     (λ c. search needs)
