@@ -17,6 +17,7 @@ use Rattle.event.specs.declared.Coord.{Coord}
 use Rattle.image.specs.Tree.{Action, Actions, NoOp, Trans, KeyCode, MultipleKeyCodes, MultipleActions, Layer, DefaultLayer, HoldTap, end, _&_}
 use Rattle.image.specs.Legal.{closed, closedAll, Times, holdable, isEnd, legal, legalAll}
 use Rattle.layout.specs.Model.{Waiting, Idle, Waits, Model, Mark, Begun, Decided, Done, still, after, withBase, withWaiting}
+use Rattle.layout.specs.Packed.{actedOn, decisions}
 use Rattle.layout.specs.Actions.{push, pushCodes, Verdict, Open, Now, verdict, begins, doAction, doActions}
 use Rattle.layout.specs.Steps.{coordIn}
 use Rattle.layout.specs.declared.run.State.{State}
@@ -24,8 +25,6 @@ use Rattle.layout.specs.declared.run.State.the-variants.{NormalKey, LayerModifi
 use Rattle.layout.specs.declared.run.Way.{Way}
 use Rattle.layout.specs.declared.run.Way.the-variants.{Tap, Hold}
 use Rattle.layout.specs.declared.queue.Found.{Found}
-use Rattle.demands.specs.Runs.{actedOn}
-use Rattle.demands.specs.Answers.{decisions}
 use Rattle.demands.specs.Demand3.{Leads, Pending, Nothing, Key}
 use Rattle.demands.proofs.Cost.{cost, share, cost-idle, cost-begun}
 use Rattle.demands.proofs.Marks.{made, Down, down-push}

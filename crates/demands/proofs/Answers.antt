@@ -10,14 +10,14 @@ use Rattle.event.specs.declared.Coord.{Coord}
 use Rattle.image.specs.Legal.{Times}
 use Rattle.image.specs.Table.{Table}
 use Rattle.layout.specs.Model.{Model, Mark, Acted, Begun, Decided}
-use Rattle.layout.specs.Packed.{noNotes, noteDecision, noted}
+use Rattle.layout.specs.Packed.{noNotes, noteDecision, noted, actedOn, decisions, actedIn, madeIn}
 use Rattle.layout.specs.declared.run.Acted.{Acted as ActedOn}
 use Rattle.layout.specs.declared.run.Acted.the-variants as acted
 use Rattle.layout.specs.declared.run.Decision.the-variants as decision
 use Rattle.layout.specs.declared.run.Notes.{Notes}
 use Rattle.layout.specs.declared.run.Way.{Way}
-use Rattle.demands.specs.Runs.{Call, Tick, Enter, call, run, actedOn}
-use Rattle.demands.specs.Answers.{decisions, answers, eventIn, decisionIn, namedEvents, namedDecisions}
+use Rattle.demands.specs.Runs.{Call, Tick, Enter, call, run}
+use Rattle.demands.specs.Answers.{answers, namedEvents, namedDecisions}
 use Rattle.demands.specs.Limits.{most}
 use Rattle.demands.specs.Demand3.{Legal}
 use Rattle.demands.proofs.Marks.{acted-append, decisions-append}
@@ -36,7 +36,7 @@ none-left : {A : Type 0} (l : List A) → length l ≤ 0 → l ≡ []
 none-left [] h = refl
 none-left (x ∷ l) h = absurd (omega arith)
 
-event-named : (n : Notes) (ms : List Mark) → n .acted ≡ acted.Nothing → length (actedOn ms) ≤ 1 → eventIn (noted n ms .acted) ≡ actedOn ms
+event-named : (n : Notes) (ms : List Mark) → n .acted ≡ acted.Nothing → length (actedOn ms) ≤ 1 → actedIn (noted n ms .acted) ≡ actedOn ms
 unfolding noted actedOn
 event-named n [] e h = rw e
 event-named n (Acted x ∷ ms) e h = rw (event-kept _ ms (omega arith), none-left (actedOn ms) (omega arith))
@@ -44,10 +44,7 @@ event-named n (Begun c ∷ ms) e h = event-named n ms e h
 event-named n (Decided c w ∷ ms) e h = event-named (noteDecision n c w) ms e h
 
 -- the decisions of the notes: two, one or none, and then those of the marks
-abbrev both : Notes → List (Coord × Way)
-both n = decisionIn (n .first) ++ decisionIn (n .second)
-
-decision-kept : (n : Notes) (ms : List Mark) → length (decisions ms) ≤ 0 → both (noted n ms) ≡ both n
+decision-kept : (n : Notes) (ms : List Mark) → length (decisions ms) ≤ 0 → madeIn (noted n ms) ≡ madeIn n
 unfolding noted decisions
 decision-kept n [] h = refl
 decision-kept n (Acted e ∷ ms) h = decision-kept (record { acted = acted.On e; first = n .first; second = n .second }) ms h
@@ -55,7 +52,7 @@ decision-kept n (Begun c ∷ ms) h = decision-kept n ms h
 decision-kept n (Decided c w ∷ ms) h = absurd (omega arith)
 
 second-named : (a : ActedOn) (c : Coord) (w : Way) (ms : List Mark) → length (decisions ms) ≤ 1
-    → both (noted (record { acted = a; first = decision.Made c w; second = decision.Nothing }) ms) ≡ (c, w) ∷ decisions ms
+    → madeIn (noted (record { acted = a; first = decision.Made c w; second = decision.Nothing }) ms) ≡ (c, w) ∷ decisions ms
 unfolding noted decisions
 second-named a c w [] h = refl
 second-named a c w (Acted e ∷ ms) h = second-named (acted.On e) c w ms h
@@ -63,7 +60,7 @@ second-named a c w (Begun d ∷ ms) h = second-named a c w ms h
 second-named a c w (Decided d v ∷ ms) h = decision-kept _ ms (omega arith) ∙ rw (none-left (decisions ms) (omega arith))
 
 decisions-named : (a : ActedOn) (ms : List Mark) → length (decisions ms) ≤ 2
-    → both (noted (record { acted = a; first = decision.Nothing; second = decision.Nothing }) ms) ≡ decisions ms
+    → madeIn (noted (record { acted = a; first = decision.Nothing; second = decision.Nothing }) ms) ≡ decisions ms
 unfolding noted decisions
 decisions-named a [] h = refl
 decisions-named a (Acted e ∷ ms) h = decisions-named (acted.On e) ms h

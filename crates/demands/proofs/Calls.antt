@@ -20,14 +20,14 @@ use Rattle.image.specs.Tree.{Action, NoOp, Trans, KeyCode, MultipleKeyCodes, Mu
 use Rattle.image.specs.Legal.{Times, legal}
 use Rattle.image.specs.Table.{Table}
 use Rattle.layout.specs.Model.{Waiting, Idle, Waits, Model, Mark, Decided, same, still, withWaiting, withQueue}
+use Rattle.layout.specs.Packed.{actedOn, decisions}
 use Rattle.layout.specs.Actions.{find, decided}
 use Rattle.layout.specs.Steps.{held, current, orDefault, pressed, coordIn, release, act, into, intoHold, intoTap, releases, released, overflow, appended, entered, event, olderOne, older, tickWait, ticked, tick}
 use Rattle.layout.specs.declared.run.State.{State}
 use Rattle.layout.specs.declared.run.Way.{Way}
 use Rattle.layout.specs.declared.run.Way.the-variants.{Tap, Hold}
 use Rattle.layout.specs.declared.queue.Stacked.{Stacked}
-use Rattle.demands.specs.Runs.{Call, Tick, Enter, call, run, arrived, actedOn}
-use Rattle.demands.specs.Answers.{decisions}
+use Rattle.demands.specs.Runs.{Call, Tick, Enter, call, run, arrived}
 use Rattle.demands.specs.Demand3.{Legal, Leads, Nothing, Key, downBy, downAfter}
 use Rattle.demands.proofs.Cost.{cost, share, cost-less, share-whole}
 use Rattle.demands.proofs.Marks.{made, acted-append, leads-append, down-append, Down, down-nil, down-head, down-cons, down-more}

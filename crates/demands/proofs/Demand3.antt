@@ -13,8 +13,9 @@ use Rattle.image.specs.Sound.{Sound}
 use Rattle.image.specs.Table.{Table, tableOf, timesOf}
 use Rattle.image.proofs.Accepted.{accepted, legal-table, times-word}
 use Rattle.layout.specs.Model.{Model, fresh}
+use Rattle.layout.specs.Packed.{actedOn}
 use Rattle.layout.specs.Steps.{codes}
-use Rattle.demands.specs.Runs.{Call, call, run, ticks, arrived, actedOn}
+use Rattle.demands.specs.Runs.{Call, call, run, ticks, arrived}
 use Rattle.demands.specs.Demand3.{drain, queuedAfter, bound, Quiet, AllReleased, Demand3, Legal, OfTables, OfImages}
 use Rattle.demands.specs.Limits.{OfImages as LimitsOfImages}
 use Rattle.demands.proofs.Marks.{down-nil, arrived-append, arrived-ticks, down-none}

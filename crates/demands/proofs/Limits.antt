@@ -13,10 +13,10 @@ use Rattle.event.specs.declared.Event.{Event}
 use Rattle.image.specs.Legal.{Times}
 use Rattle.image.specs.Table.{Table}
 use Rattle.layout.specs.Model.{Waiting, Idle, Waits, Model, Mark, still, withQueue}
+use Rattle.layout.specs.Packed.{actedOn, decisions}
 use Rattle.layout.specs.Steps.{act, intoHold, intoTap, releases, released, overflow, appended, entered, event, older, tickWait, ticked, tick}
 use Rattle.layout.specs.declared.queue.Stacked.{Stacked}
-use Rattle.demands.specs.Runs.{Call, Tick, Enter, call, actedOn}
-use Rattle.demands.specs.Answers.{decisions}
+use Rattle.demands.specs.Runs.{Call, Tick, Enter, call}
 use Rattle.demands.specs.Limits.{Limits}
 use Rattle.demands.specs.Demand3.{Legal}
 use Rattle.demands.proofs.Cost.{share}

@@ -10,11 +10,11 @@ use Rattle.lists.proofs.Laws.{every-head, every-append}
 use Rattle.event.specs.declared.Coord.{Coord}
 use Rattle.event.specs.declared.Event.{Event}
 use Rattle.layout.specs.Model.{Mark, Acted, Begun, Decided}
+use Rattle.layout.specs.Packed.{actedOn, decisions}
 use Rattle.layout.specs.Steps.{coordIn}
 use Rattle.layout.specs.declared.run.State.{State}
 use Rattle.layout.specs.declared.run.Way.{Way}
-use Rattle.demands.specs.Runs.{Call, Tick, Enter, ticks, arrived, actedOn}
-use Rattle.demands.specs.Answers.{decisions}
+use Rattle.demands.specs.Runs.{Call, Tick, Enter, ticks, arrived}
 use Rattle.demands.specs.Demand3.{Leads, Pending, Nothing, Key, downBy, downAfter}
 
 pub acted-append : (ms ns : List Mark) → actedOn (ms ++ ns) ≡ actedOn ms ++ actedOn ns

@@ -20,10 +20,11 @@ use Rattle.image.specs.Table.{Table, tableOf, timesOf}
 use Rattle.image.specs.declared.words.Shape.{Shape}
 use Rattle.image.specs.declared.rules.Checked.the-variants.{Accepted}
 use Rattle.layout.specs.Model.{Model, Idle, Mark, Acted, Begun, Decided, Done, fresh, same}
+use Rattle.layout.specs.Packed.{actedOn, decisions}
 use Rattle.layout.specs.Steps.{codes}
 use Rattle.layout.specs.declared.run.Notes.{Notes}
-use Rattle.demands.specs.Runs.{Call, run, ticks, arrived, actedOn}
-use Rattle.demands.specs.Answers.{decisions, answers, namedEvents, namedDecisions}
+use Rattle.demands.specs.Runs.{Call, run, ticks, arrived}
+use Rattle.demands.specs.Answers.{answers, namedEvents, namedDecisions}
 
 -- the calls on a fresh layout over the table, then n ticks
 abbrev pub drain : Table → List Call → ℕ → Done

@@ -10,8 +10,8 @@ use Rattle.image.specs.Table.{tableOf}
 use Rattle.image.specs.declared.words.Shape.{Shape}
 use Rattle.image.specs.declared.rules.Checked.the-variants.{Accepted}
 use Rattle.layout.specs.Model.{Mark, fresh}
-use Rattle.demands.specs.Runs.{Call, Tick, Enter, call, run, actedOn}
-use Rattle.demands.specs.Answers.{decisions}
+use Rattle.layout.specs.Packed.{actedOn, decisions}
+use Rattle.demands.specs.Runs.{Call, Tick, Enter, call, run}
 
 -- how many decisions a call makes at most
 abbrev pub most : Call → ℕ

@@ -1,5 +1,4 @@
--- Runs of calls on a layout, and what is read off them: the events that came in, and by the marks of the steps those
--- that were acted on. Document 01, Layout.
+-- Runs of calls on a layout, and the events that came in. Document 01, Layout.
 -- The contracts of the compiled calls speak of these steps, for an accepted image and a layout that is not
 -- refused: so a list of calls, none refused, is a run, each call's layout being the one that the call before it left.
 -- Assumes nothing.
@@ -8,7 +7,7 @@ use mathlib.Core.List.{List, [], _∷_}
 use lib.ListN.{replicate}
 use Rattle.event.specs.declared.Event.{Event}
 use Rattle.image.specs.Table.{Table}
-use Rattle.layout.specs.Model.{Model, Mark, Acted, Begun, Decided, Done, still, after}
+use Rattle.layout.specs.Model.{Model, Done, still, after}
 use Rattle.layout.specs.Steps.{event, tick}
 
 pub data Call : Type 0 where
@@ -32,10 +31,3 @@ unfoldable pub arrived : List Call → List Event
 arrived [] = []
 arrived (Tick ∷ ks) = arrived ks
 arrived (Enter e ∷ ks) = e ∷ arrived ks
-
--- the events acted on, in the order in which they were
-unfoldable pub actedOn : List Mark → List Event
-actedOn [] = []
-actedOn (Acted e ∷ ms) = e ∷ actedOn ms
-actedOn (Begun c ∷ ms) = actedOn ms
-actedOn (Decided c way ∷ ms) = actedOn ms
