@@ -1,4 +1,6 @@
 // The lines of the debouncer: `debounce`, `debouncer`, `scan`, `update`, `picture`, `space`. Assumes nothing.
+use super::lent;
+use super::lent::FILL;
 use super::out;
 use super::words;
 use super::words::Bytes;
@@ -27,19 +29,11 @@ fn number_of(verdict: Verdict) -> u8 {
     }
 }
 
-// A number that was read; one that was not is past every count.
-fn value(number: Number) -> usize {
-    match number {
-        Number::Is(n) => n,
-        Number::Unread => 65536,
-    }
-}
-
 // Whether each word from 1 on, and before `end`, is a number.
 fn are_numbers(line: &[u8], w: Words, end: usize) -> bool {
     let mut k = 1;
     while k < end {
-        if 65535 < value(words::read_number(words::word(line, w, k))) {
+        if 65535 < words::number_at(line, w, k) {
             return false;
         }
         k += 1;
@@ -47,14 +41,14 @@ fn are_numbers(line: &[u8], w: Words, end: usize) -> bool {
     true
 }
 
-// Word k, which is a number.
-fn number_at(line: &[u8], w: Words, k: usize) -> usize {
-    value(words::read_number(words::word(line, w, k)))
-}
-
 fn made(line: &[u8], w: Words, start: &[u8], out: &mut [u8], world: World) -> World {
-    let nb = (number_at(line, w, 3) % 65536) as u16;
-    let made = Debouncer::new(number_at(line, w, 1), number_at(line, w, 2), nb, start);
+    let nb = (words::number_at(line, w, 3) % 65536) as u16;
+    let made = Debouncer::new(
+        words::number_at(line, w, 1),
+        words::number_at(line, w, 2),
+        nb,
+        start,
+    );
     let verdict = made.verdict;
     let debouncer = made.debouncer;
     let at = out::put_all(out, world.out, b"made ");
@@ -107,10 +101,10 @@ fn debouncer_of(line: &[u8], w: Words, cur: [u8; 128], new: [u8; 128]) -> Deboun
     Debouncer {
         cur,
         new,
-        since: (number_at(line, w, 4) % 65536) as u16,
-        nb_bounce: (number_at(line, w, 3) % 65536) as u16,
-        rows: number_at(line, w, 1),
-        columns: number_at(line, w, 2),
+        since: (words::number_at(line, w, 4) % 65536) as u16,
+        nb_bounce: (words::number_at(line, w, 3) % 65536) as u16,
+        rows: words::number_at(line, w, 1),
+        columns: words::number_at(line, w, 2),
     }
 }
 
@@ -187,33 +181,16 @@ pub fn picture(out: &mut [u8], world: World) -> World {
     }
 }
 
-// What fills an event buffer, so that a byte written past the events shows.
-const FILL: u8 = 0xEE;
-
-fn is_filled(bytes: &[u8]) -> bool {
-    let mut i = 0;
-    while i < bytes.len() {
-        if bytes[i] != FILL {
-            return false;
-        }
-        i += 1;
-    }
-    true
-}
-
 // The bytes of so many events in hex; `spilt` where a byte past them was written.
 fn put_events(events: &[u8], count: usize, out: &mut [u8], waiting: usize) -> usize {
     if 128 < count {
         return out::put_all(out, waiting, b"spilt");
     }
-    if !is_filled(words::after(events, 3 * count)) {
+    if !lent::is_filled(words::after(events, 3 * count)) {
         return out::put_all(out, waiting, b"spilt");
     }
     let at = out::put_all(out, waiting, b"events ");
-    if count == 0 {
-        return out::put(out, at, b'-');
-    }
-    out::put_hex(out, at, words::first(events, 3 * count))
+    out::put_bytes(out, at, words::first(events, 3 * count))
 }
 
 // A scan into a lent buffer, and the answer.
@@ -227,7 +204,7 @@ fn scanned(scan: &[u8], events: &mut [u8], out: &mut [u8], world: World) -> Worl
             .bouncing(after)
             .wrote(put_events(events, count, out, world.out)),
         Telling::Refused(refusal) => {
-            if is_filled(events) {
+            if lent::is_filled(events) {
                 return world
                     .bouncing(after)
                     .wrote(refused(out, world.out, refusal));

@@ -3,12 +3,17 @@
 // Assumes nothing.
 mod board;
 mod bounce;
+mod desk;
+mod keys;
+mod lent;
 mod out;
+mod parts;
 mod table;
 mod words;
 mod world;
 
 use codes::KbHidReport;
+use keys::Call;
 use libc::STDIN_FILENO;
 use words::Bytes;
 use words::Words;
@@ -31,8 +36,15 @@ fn answer_codes(word: &[u8], scratch: &mut [u8], out: &mut [u8], waiting: usize)
     out::put_hex(out, waiting, &b)
 }
 
-// The lines of the keyboard, by their commands.
-fn answer_board(line: &[u8], w: Words, scratch: &mut [u8], out: &mut [u8], world: World) -> World {
+// The lines of the keyboard, by their commands; then those that set a part of the layout.
+fn answer_board(
+    line: &[u8],
+    w: Words,
+    scratch: &mut [u8],
+    desk: &mut [u16],
+    out: &mut [u8],
+    world: World,
+) -> World {
     let command = words::word(line, w, 0);
     let count = w.count;
     if count == 2 && words::is(command, b"report") {
@@ -56,11 +68,18 @@ fn answer_board(line: &[u8], w: Words, scratch: &mut [u8], out: &mut [u8], world
     if count == 1 && words::is(command, b"descriptor") {
         return board::descriptor(out, world);
     }
-    world.wrote(out::put(out, world.out, b'?'))
+    world.wrote(answer_part(line, w, desk, out, world.out))
 }
 
 // The lines of the debouncer, by their commands; then the keyboard's.
-fn answer_bounce(line: &[u8], w: Words, scratch: &mut [u8], out: &mut [u8], world: World) -> World {
+fn answer_bounce(
+    line: &[u8],
+    w: Words,
+    scratch: &mut [u8],
+    desk: &mut [u16],
+    out: &mut [u8],
+    world: World,
+) -> World {
     let command = words::word(line, w, 0);
     let count = w.count;
     if count == 2 && words::is(command, b"scan") {
@@ -81,7 +100,67 @@ fn answer_bounce(line: &[u8], w: Words, scratch: &mut [u8], out: &mut [u8], worl
     if count == 2 && words::is(command, b"space") {
         return bounce::space(line, w, out, world);
     }
-    answer_board(line, w, scratch, out, world)
+    answer_board(line, w, scratch, desk, out, world)
+}
+
+// Whether a line is a call of the layout: its command has one letter.
+fn is_call(line: &[u8], w: Words) -> bool {
+    let command = words::word(line, w, 0);
+    command.len() == 1
+}
+
+// The lines of the layout's calls, by their commands.
+fn answer_call(
+    line: &[u8],
+    w: Words,
+    image: &[u8],
+    desk: &mut [u16],
+    out: &mut [u8],
+    waiting: usize,
+) -> usize {
+    let command = words::word(line, w, 0);
+    let count = w.count;
+    if count == 1 && words::is(command, b"t") {
+        return keys::ask(image, Call::Tick, desk, out, waiting);
+    }
+    if count == 3 && words::is(command, b"p") {
+        return keys::event(line, w, true, image, desk, out, waiting);
+    }
+    if count == 3 && words::is(command, b"r") {
+        return keys::event(line, w, false, image, desk, out, waiting);
+    }
+    if count == 1 && words::is(command, b"k") {
+        return keys::ask(image, Call::Keycodes, desk, out, waiting);
+    }
+    out::put(out, waiting, b'?')
+}
+
+// The lines that set a part of the layout, by their commands; the others cannot be read.
+fn answer_part(line: &[u8], w: Words, desk: &mut [u16], out: &mut [u8], waiting: usize) -> usize {
+    let command = words::word(line, w, 0);
+    let count = w.count;
+    if count == 2 && words::is(command, b"room") {
+        return parts::one(line, w, desk::ROOM, desk, out, waiting);
+    }
+    if count == 2 && words::is(command, b"default") {
+        return parts::one(line, w, desk::DEFAULT, desk, out, waiting);
+    }
+    if count == 3 && words::is(command, b"counts") {
+        return parts::counts(line, w, desk, out, waiting);
+    }
+    if count == 6 && words::is(command, b"state") {
+        return parts::state(line, w, desk, out, waiting);
+    }
+    if count == 6 && words::is(command, b"queue") {
+        return parts::queue(line, w, desk, out, waiting);
+    }
+    if count == 5 && words::is(command, b"wait") {
+        return parts::wait(line, w, desk, out, waiting);
+    }
+    if count == 1 && words::is(command, b"idle") {
+        return parts::idle(line, desk, out, waiting);
+    }
+    out::put(out, waiting, b'?')
 }
 
 fn answer(
@@ -89,21 +168,26 @@ fn answer(
     w: Words,
     scratch: &mut [u8],
     table: &mut [u8],
+    desk: &mut [u16],
     out: &mut [u8],
     world: World,
 ) -> World {
+    let image = words::first(table, world.image);
+    if is_call(line, w) {
+        return world.wrote(answer_call(line, w, image, desk, out, world.out));
+    }
     let command = words::word(line, w, 0);
     let count = w.count;
     if count == 2 && words::is(command, b"codes") {
         return world.wrote(answer_codes(words::word(line, w, 1), scratch, out, world.out));
     }
     if count == 2 && words::is(command, b"image") {
-        return table::image(line, w, table, out, world);
+        return table::image(line, w, scratch, table, desk, out, world);
     }
     if count == 3 && words::is(command, b"areas") {
         return world.wrote(table::areas(line, w, scratch, out, world.out));
     }
-    answer_bounce(line, w, scratch, out, world)
+    answer_bounce(line, w, scratch, desk, out, world)
 }
 
 // The answer to the line that is held. A line that did not fit its buffer cannot be read.
@@ -111,12 +195,13 @@ fn answer_held(
     line: &[u8],
     scratch: &mut [u8],
     table: &mut [u8],
+    desk: &mut [u16],
     out: &mut [u8],
     world: World,
 ) -> World {
     if world.line <= line.len() {
         let part = words::first(line, world.line);
-        return answer(part, words::split(part), scratch, table, out, world);
+        return answer(part, words::split(part), scratch, table, desk, out, world);
     }
     world.wrote(out::put(out, world.out, b'?'))
 }
@@ -126,10 +211,11 @@ fn end_line(
     line: &[u8],
     scratch: &mut [u8],
     table: &mut [u8],
+    desk: &mut [u16],
     out: &mut [u8],
     world: World,
 ) -> World {
-    let answered = answer_held(line, scratch, table, out, world);
+    let answered = answer_held(line, scratch, table, desk, out, world);
     let mut ended = answered.wrote(out::put(out, answered.out, b'\n'));
     ended.line = 0;
     ended
@@ -172,13 +258,14 @@ fn take(
     line: &mut [u8],
     scratch: &mut [u8],
     table: &mut [u8],
+    desk: &mut [u16],
     out: &mut [u8],
     world: World,
 ) -> World {
     let mut now = world;
     now.line = append(bytes, line, world.line);
     if ends {
-        return end_line(line, scratch, table, out, now);
+        return end_line(line, scratch, table, desk, out, now);
     }
     now
 }
@@ -188,6 +275,7 @@ fn feed(
     line: &mut [u8],
     scratch: &mut [u8],
     table: &mut [u8],
+    desk: &mut [u16],
     out: &mut [u8],
     world: World,
 ) -> World {
@@ -197,7 +285,7 @@ fn feed(
         let end = line_end(input, at);
         let ends = end < input.len();
         let next = end + 1;
-        now = take(&input[at..end], ends, line, scratch, table, out, now);
+        now = take(&input[at..end], ends, line, scratch, table, desk, out, now);
         at = next;
     }
     now
@@ -208,6 +296,7 @@ fn turn(
     line: &mut [u8],
     scratch: &mut [u8],
     table: &mut [u8],
+    desk: &mut [u16],
     out: &mut [u8],
     world: World,
 ) -> Came {
@@ -217,7 +306,7 @@ fn turn(
         return Came { go: false, world };
     }
     let n = io::count(got, &input);
-    let now = feed(&input[..n], line, scratch, table, out, world);
+    let now = feed(&input[..n], line, scratch, table, desk, out, world);
     Came {
         go: true,
         world: now,
@@ -225,32 +314,41 @@ fn turn(
 }
 
 // The end of the input: a last line without newline counts.
-fn finish(line: &[u8], scratch: &mut [u8], table: &mut [u8], out: &mut [u8], world: World) {
+fn finish(
+    line: &[u8],
+    scratch: &mut [u8],
+    table: &mut [u8],
+    desk: &mut [u16],
+    out: &mut [u8],
+    world: World,
+) {
     if world.line == 0 {
         out::flush(out, world.out);
         return;
     }
-    let last = end_line(line, scratch, table, out, world);
+    let last = end_line(line, scratch, table, desk, out, world);
     out::flush(out, last.out);
 }
 
-fn run(line: &mut [u8], scratch: &mut [u8], table: &mut [u8], out: &mut [u8]) {
+fn run(line: &mut [u8], scratch: &mut [u8], table: &mut [u8], desk: &mut [u16], out: &mut [u8]) {
     let mut world = World::new();
+    desk::set(desk, desk::ROOM, 64);
     let mut turns = u64::MAX;
     let mut go = true;
     while turns > 0 && go {
-        let came = turn(line, scratch, table, out, world);
+        let came = turn(line, scratch, table, desk, out, world);
         world = came.world;
         go = came.go;
         turns -= 1;
     }
-    finish(line, scratch, table, out, world);
+    finish(line, scratch, table, desk, out, world);
 }
 
 fn main() {
     let mut line = [0u8; 32768];
     let mut scratch = [0u8; 32768];
     let mut table = [0u8; 16384];
+    let mut desk = [0u16; desk::WORDS];
     let mut out = io::large_buffer();
-    run(&mut line, &mut scratch, &mut table, &mut out);
+    run(&mut line, &mut scratch, &mut table, &mut desk, &mut out);
 }

@@ -86,3 +86,11 @@ pub fn put_hex(out: &mut [u8], waiting: usize, bytes: &[u8]) -> usize {
     }
     at
 }
+
+// The same, and `-` for no byte.
+pub fn put_bytes(out: &mut [u8], waiting: usize, bytes: &[u8]) -> usize {
+    if bytes.len() == 0 {
+        return put(out, waiting, b'-');
+    }
+    put_hex(out, waiting, bytes)
+}

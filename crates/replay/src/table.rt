@@ -1,4 +1,5 @@
 // The lines of the table image: `image`, `areas`. Assumes nothing.
+use super::desk;
 use super::out;
 use super::words;
 use super::words::Bytes;
@@ -7,29 +8,65 @@ use super::world::World;
 use image::Checked;
 use image::Source;
 use image::Told;
+use layout::Layout;
 
-fn refused(told: Told, out: &mut [u8], waiting: usize) -> usize {
+// A refusal's number and place.
+pub fn refused(number: u8, place: usize, out: &mut [u8], waiting: usize) -> usize {
     let a = out::put_all(out, waiting, b"refused ");
-    let b = out::put_number(out, a, words::wide(told.number));
+    let b = out::put_number(out, a, words::wide(number));
     let c = out::put(out, b, b' ');
-    out::put_number(out, c, told.place)
+    out::put_number(out, c, place)
+}
+
+fn told(told: Told, out: &mut [u8], waiting: usize) -> usize {
+    refused(told.number, told.place, out, waiting)
 }
 
 fn checked(image: &[u8], out: &mut [u8], waiting: usize) -> usize {
     let answer = image::check(image);
     match answer {
         Checked::Accepted(_) => out::put_all(out, waiting, b"accepted"),
-        Checked::Refused(_, _) => refused(answer.told(), out, waiting),
+        Checked::Refused(_, _) => told(answer.told(), out, waiting),
     }
 }
 
-// `image HEX`: the image that later lines are given, accepted or not.
-pub fn image(line: &[u8], w: Words, table: &mut [u8], out: &mut [u8], world: World) -> World {
-    let Bytes::Count(n) = words::read_hex(words::word(line, w, 1), table) else {
+// The image into its place; what is past that place's end is left out.
+fn keep(image: &[u8], table: &mut [u8]) {
+    let mut i = 0;
+    while i < image.len() && i < table.len() {
+        table[i] = image[i];
+        i += 1;
+    }
+}
+
+// The image that later lines are given, with a fresh layout.
+fn brought(
+    image: &[u8],
+    table: &mut [u8],
+    desk: &mut [u16],
+    out: &mut [u8],
+    world: World,
+) -> World {
+    keep(image, table);
+    desk::store(Layout::new(), desk);
+    let end = checked(image, out, world.out);
+    world.imaged(image.len()).wrote(end)
+}
+
+// `image HEX`: read apart from the image that stands, which a line that cannot be read leaves.
+pub fn image(
+    line: &[u8],
+    w: Words,
+    scratch: &mut [u8],
+    table: &mut [u8],
+    desk: &mut [u16],
+    out: &mut [u8],
+    world: World,
+) -> World {
+    let Bytes::Count(n) = words::read_hex(words::word(line, w, 1), scratch) else {
         return world.wrote(out::put(out, world.out, b'?'));
     };
-    let end = checked(words::first(table, n), out, world.out);
-    world.imaged(n).wrote(end)
+    brought(words::first(scratch, n), table, desk, out, world)
 }
 
 // Which area holds the table in use, and how long its stretch is; or the refusal that is told beside an empty stretch.
@@ -46,7 +83,7 @@ fn in_use<'a>(operator: &'a [u8], built_in: &'a [u8], out: &mut [u8], waiting: u
             let a = out::put_all(out, waiting, b"built-in ");
             out::put_number(out, a, length)
         }
-        Source::Neither(_, _) => refused(image::refusal_in_use(operator, built_in), out, waiting),
+        Source::Neither(_, _) => told(image::refusal_in_use(operator, built_in), out, waiting),
     }
 }
 

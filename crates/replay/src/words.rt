@@ -231,6 +231,26 @@ pub fn read_byte(word: &[u8]) -> Number {
     Number::Is(n)
 }
 
+// Word k as a number of `read_number`; one that cannot be read is past every such number.
+pub fn number_at(line: &[u8], w: Words, k: usize) -> usize {
+    match read_number(word(line, w, k)) {
+        Number::Is(n) => n,
+        Number::Unread => 65536,
+    }
+}
+
+// The same of `read_byte`.
+pub fn byte_at(line: &[u8], w: Words, k: usize) -> usize {
+    match read_byte(word(line, w, k)) {
+        Number::Is(n) => n,
+        Number::Unread => 65536,
+    }
+}
+
+pub fn one(yes: bool) -> usize {
+    if yes { 1 } else { 0 }
+}
+
 pub fn flag(yes: bool) -> u8 {
     if yes { b'1' } else { b'0' }
 }

@@ -7,10 +7,10 @@ use Rattle.replay.proofs.feed.Statement.{statement}
 use Rattle.replay.proofs.feed.Tie as tie
 
 abbrev Inv-loop : tie.InvT-loop
-Inv-loop input line₀ scratch₀ table₀ out₀ now₀ at₀ line scratch table out now at = (length line ≡ length line₀) × (length scratch ≡ length scratch₀) × (length table ≡ length table₀) × (length out ≡ length out₀)
+Inv-loop input line₀ scratch₀ table₀ desk₀ out₀ now₀ at₀ line scratch table desk out now at = (length line ≡ length line₀) × (length scratch ≡ length scratch₀) × (length table ≡ length table₀) × (length desk ≡ length desk₀) × (length out ≡ length out₀)
 
 abbrev μ-loop : tie.MeasureT-loop
-μ-loop input line₀ scratch₀ table₀ out₀ now₀ at₀ line scratch table out now at = length input + 1 - at
+μ-loop input line₀ scratch₀ table₀ desk₀ out₀ now₀ at₀ line scratch table desk out now at = length input + 1 - at
 
 pub feed-spec : {M : Type 1} → statement M
 feed-spec =
@@ -25,6 +25,7 @@ feed-spec =
     (λ c. search needs)
     (λ c. search needs)
     (λ c κs. search needs)
+    (λ c. search needs)
     (λ c. search needs)
     (λ c. search needs)
     (λ c. search needs)

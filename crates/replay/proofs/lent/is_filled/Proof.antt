@@ -1,9 +1,9 @@
--- `replay::bounce::is_filled` is safe and ends. Assumes nothing.
+-- `replay::lent::is_filled` is safe and ends. Assumes nothing.
 use borrow.Author.Needs.{needs}
 use Prim.Native.Nat.{_≤_, _-_}
 use lib.ListN.{length}
-use Rattle.replay.proofs.bounce.is_filled.Statement.{statement}
-use Rattle.replay.proofs.bounce.is_filled.Tie as tie
+use Rattle.replay.proofs.lent.is_filled.Statement.{statement}
+use Rattle.replay.proofs.lent.is_filled.Tie as tie
 
 abbrev Inv-loop : tie.InvT-loop
 Inv-loop bytes i₀ i = i ≤ length bytes
