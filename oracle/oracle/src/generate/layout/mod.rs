@@ -23,8 +23,11 @@ pub use moves::trace;
 const ENOUGH_FOR_LONG_WAITS: usize = 100_000;
 const LONG_WAITS: usize = 3;
 
-/// Lines that miss the form by little.
-pub const MISWRITTEN: [&str; 34] = [
+/// Lines that miss the form by little. An image that cannot be read to its end leaves the one that stands.
+pub const MISWRITTEN: [&str; 37] = [
+    "image",
+    "image 000",
+    "image 0000000000000000zz",
     "p",
     "p 0",
     "p 0 0 0",
