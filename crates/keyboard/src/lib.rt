@@ -2,6 +2,7 @@
 // report descriptor. By value; lent.rt has the same calls over a record that is lent. Document 01, "Report and keyboard".
 // Assumes nothing.
 pub mod lent;
+pub mod through;
 
 use codes::KbHidReport;
 ghost use mathlib.Core.Path.{_≡_};
