@@ -1,5 +1,5 @@
 -- The lent calls called with a record that is at hand, proved once for each number of arguments. Each is, in the source,
---     fn f_lent(keyboard: Keyboard, x: B) -> Pair { let mut kb = keyboard; let answer = f_in(&mut kb, x); Pair { answer, keyboard: kb } }
+--     fn f(keyboard: Keyboard, x: B) -> Pair { let mut kb = keyboard; let answer = f_in(&mut kb, x); Pair { answer, keyboard: kb } }
 -- where f_in is a lent call of `Walk.antt`. It promises what the call by value does.
 --     lends        a local that holds a keyboard is lent for a lifetime
 --     back         once the lifetime is over, the local holds the keyboard that the call left
@@ -58,6 +58,16 @@ ref = tyRef erased mut (pointee (T.the-row .written))
 abbrev bytes : Ty
 bytes = tyStruct sliceName (tcons (tyRef (named 0) imm (tyInt w8)) (tcons (tyInt w64) tnil))
 
+-- the types of an answer and of the struct that has it and the keyboard, and that struct's MIR type
+abbrev answerOf : Sort → RattleType
+answerOf S = plainly (S .base) (S .τ)
+
+abbrev both : (S : Sort) → Pair S → Ty
+both S P = tyStruct (P .name) (tcons (S .τ) (tcons T′.mir tnil))
+
+abbrev bothOf : (S : Sort) → Pair S → RattleType
+bothOf S P = plainly (P .base) (both S P)
+
 module _ {M : Type 1} (𝓤 : URA M) (H : Heap 𝓤) (A : Atoms 𝓤) (W : Given 𝓤 H A) where
   typed : (h : Keyboard) → Is T.the-row h (mach h ∷ []) → Holds (hasTy T′.mir (mach h)) × WT (mach h)
   typed h is = LL.lawful T.the-type T′.the-laws 𝓤 H A W .typed h (mach h ∷ []) is .0
@@ -87,21 +97,12 @@ put S P r a k ea ek ia ik =
 
 -- ---- 0 arguments beside the keyboard
 module _ (S : Sort) (P : Pair S) (f : Name) (F : Keyboard → P .base .Denot) where
-  abbrev SR0 : RattleType
-  SR0 = plainly (S .base) (S .τ)
-
-  abbrev pair0 : Ty
-  pair0 = tyStruct (P .name) (tcons (S .τ) (tcons T′.mir tnil))
-
-  abbrev PR0 : RattleType
-  PR0 = plainly (P .base) pair0
-
   abbrev through0 : Fn
   through0 = record {
     lifetimes = 0;
     outlives = [];
     params = 1;
-    locals = local pair0 valueLocal ∷ local T′.mir valueLocal ∷ local T′.mir memorySlot ∷ local (S .τ) valueLocal ∷ local ref valueLocal ∷ local T′.mir valueLocal ∷ [];
+    locals = local (both S P) valueLocal ∷ local T′.mir valueLocal ∷ local T′.mir memorySlot ∷ local (S .τ) valueLocal ∷ local ref valueLocal ∷ local T′.mir valueLocal ∷ [];
     body = seq (assign (place 2 []) (rvOpd (copy (place 1 []))))
         (seq (assign (place 4 []) (addrOf (place 2 [])))
         (seq (call f (copy (place 4 []) ∷ []) (place 3 []))
@@ -130,10 +131,10 @@ module _ (S : Sort) (P : Pair S) (f : Name) (F : Keyboard → P .base .Denot) wh
       abbrev Post0 : Val → SProp 𝓤
       Post0 = walkOf 𝓤 H A by0 stayed0 value0 .post ((tt, tt, tt, (h, tt), (mach h ∷ [], tt)), tt)
 
-      exits0 : (v : Val) → Is PR0 (F h) (v ∷ []) → ent 𝓤 (emp 𝓤) (Post0 v)
+      exits0 : (v : Val) → Is (bothOf S P) (F h) (v ∷ []) → ent 𝓤 (emp 𝓤) (Post0 v)
       exits0 v made =
           qed W [] ∵ suffices ! _ (ends-at 𝓤 H A by0 stayed0 value0 W ((tt, tt, tt, (h, tt), (mach h ∷ [], tt)), tt) v (F h) (tt, tt) (tt, tt)) $ says ! refl $
-          owned ! PR0 (Is PR0) (P .makes M 𝓤 H A W) (F h) _ made $ nothing ! $ owned ! T.the-row (Is T.the-row) (LL.makes T.the-type T′.the-plain 𝓤 H A) h _ is $ fjoin ! $ nothing ! $ done !
+          owned ! (bothOf S P) (Is (bothOf S P)) (P .makes M 𝓤 H A W) (F h) _ made $ nothing ! $ owned ! T.the-row (Is T.the-row) (LL.makes T.the-type T′.the-plain 𝓤 H A) h _ is $ fjoin ! $ nothing ! $ done !
 
       -- what the lent call's triple binds outside: the local at l, lent for the lifetime α under the name δ
       abbrev to0 : ℕ → ℕ → GName → Lent0 .Ghost
@@ -156,10 +157,10 @@ module _ (S : Sort) (P : Pair S) (f : Name) (F : Keyboard → P .base .Denot) wh
             use1 W (later (some (λ (δ : GName). ‵ (MutRef (named 0) (α ∷ []) T.the-row .own (lent-at l2 δ h) (vptr l2 0 ∷ [])) ⊛ ‵ (flent (α ∷ []) (Body (mem T.the-row) l2 0 δ))))) (lends 𝓤 H A W (α ∷ []) h l2 is) $ await ! tt $ pick ! (λ δ. split ! $
             move ! (2 ∷ 0 ∷ []) $ use2 W (raw (Lent0 .pre (to0 α l2 δ))) (goes0 α l2 δ) $
             calls-at ! fm Lent0 known (to0 α l2 δ) (and-then ! (load ! (from ! (stop !)) (look ! 4 refl)) (no-more !)) (λ v.
-            use1 W (later (some (λ (r : S .base .Denot). ((‵ (flft (α ∷ []) fullShare) ⊛ ‵ ftrue) ⊛ ‵ (SR0 .own r (v ∷ []))) ⊛ raw (ensured 𝓤 H A in0 (lent0 S P f F 𝓤 H A) (α ∷ [], tt) (lent-at l2 δ h, tt) tt r)))) (id⊢ 𝓤 _) $ await ! tt $ pick ! (λ r.
+            use1 W (later (some (λ (r : S .base .Denot). ((‵ (flft (α ∷ []) fullShare) ⊛ ‵ ftrue) ⊛ ‵ (answerOf S .own r (v ∷ []))) ⊛ raw (ensured 𝓤 H A in0 (lent0 S P f F 𝓤 H A) (α ∷ [], tt) (lent-at l2 δ h, tt) tt r)))) (id⊢ 𝓤 _) $ await ! tt $ pick ! (λ r.
             split ! $ move ! (1 ∷ []) $ use1 W (some (λ (ws : Keyboard × Unit {0}). ‵ (lasts in0 (α ∷ [], tt) (lent-at l2 δ h, tt) ws) ⊛ raw (fact 𝓤 ((r ≡ P .answer (F h)) × (ws .0 ≡ P .keyboard (F h)))))) (id⊢ 𝓤 _) $ pick ! (λ ws.
             split ! $ move ! (1 ∷ []) $ heard ! ((r ≡ P .answer (F h)) × (ws .0 ≡ P .keyboard (F h))) (λ e. fsplit ! $ move ! (2 ∷ []) $ split ! $ move ! (1 ∷ []) $
-            peeks ! SR0 (Is SR0) (shows 𝓤 H A SR0) r (v ∷ []) (λ is′.
+            peeks ! (answerOf S) (Is (answerOf S)) (shows 𝓤 H A (answerOf S)) r (v ∷ []) (λ is′.
             -- [what the answer owns; the token; the last value; true; the lender's part; the locals, of the lent one its end alone]
             land ! (from ! (stop !)) (init ! 9 refl (S .typed M 𝓤 H A W r v is′ .0)) $ rewrite ! 9 (λ (u : Val). ‵ (fat fullShare (S .τ) l3 0 u)) (ap only (S .tells r _ is′)) refl $
             -- the lifetime is ended, and the local is back at the record that the call left
@@ -182,21 +183,12 @@ module _ (S : Sort) (P : Pair S) (f : Name) (F : Keyboard → P .base .Denot) wh
 
 -- ---- 1 argument beside the keyboard
 module _ (S : Sort) (B1 : Sort) (P : Pair S) (f : Name) (F : Keyboard → B1 .base .Denot → P .base .Denot) where
-  abbrev SR1 : RattleType
-  SR1 = plainly (S .base) (S .τ)
-
-  abbrev pair1 : Ty
-  pair1 = tyStruct (P .name) (tcons (S .τ) (tcons T′.mir tnil))
-
-  abbrev PR1 : RattleType
-  PR1 = plainly (P .base) pair1
-
   abbrev through1 : Fn
   through1 = record {
     lifetimes = 0;
     outlives = [];
     params = 2;
-    locals = local pair1 valueLocal ∷ local T′.mir valueLocal ∷ local (B1 .τ) valueLocal ∷ local T′.mir memorySlot ∷ local (S .τ) valueLocal ∷ local ref valueLocal ∷ local T′.mir valueLocal ∷ [];
+    locals = local (both S P) valueLocal ∷ local T′.mir valueLocal ∷ local (B1 .τ) valueLocal ∷ local T′.mir memorySlot ∷ local (S .τ) valueLocal ∷ local ref valueLocal ∷ local T′.mir valueLocal ∷ [];
     body = seq (assign (place 3 []) (rvOpd (copy (place 1 []))))
         (seq (assign (place 5 []) (addrOf (place 3 [])))
         (seq (call f (copy (place 5 []) ∷ copy (place 2 []) ∷ []) (place 4 []))
@@ -225,10 +217,10 @@ module _ (S : Sort) (B1 : Sort) (P : Pair S) (f : Name) (F : Keyboard → B1 .ba
       abbrev Post1 : Val → SProp 𝓤
       Post1 = walkOf 𝓤 H A by1 stayed1 value1 .post ((tt, tt, tt, (h, (y1, tt)), (mach h ∷ [], (B1 .val y1 ∷ [], tt))), tt)
 
-      exits1 : (v : Val) → Is PR1 (F h y1) (v ∷ []) → ent 𝓤 (emp 𝓤) (Post1 v)
+      exits1 : (v : Val) → Is (bothOf S P) (F h y1) (v ∷ []) → ent 𝓤 (emp 𝓤) (Post1 v)
       exits1 v made =
           qed W [] ∵ suffices ! _ (ends-at 𝓤 H A by1 stayed1 value1 W ((tt, tt, tt, (h, (y1, tt)), (mach h ∷ [], (B1 .val y1 ∷ [], tt))), tt) v (F h y1) (tt, (tt, tt)) (tt, (tt, tt))) $ says ! refl $
-          owned ! PR1 (Is PR1) (P .makes M 𝓤 H A W) (F h y1) _ made $ nothing ! $ owned ! (plainly (B1 .base) (B1 .τ)) (Is (plainly (B1 .base) (B1 .τ))) (B1 .makes M 𝓤 H A W) y1 _ is1 $ fjoin ! $ owned ! T.the-row (Is T.the-row) (LL.makes T.the-type T′.the-plain 𝓤 H A) h _ is $ fjoin ! $ nothing ! $ done !
+          owned ! (bothOf S P) (Is (bothOf S P)) (P .makes M 𝓤 H A W) (F h y1) _ made $ nothing ! $ owned ! (plainly (B1 .base) (B1 .τ)) (Is (plainly (B1 .base) (B1 .τ))) (B1 .makes M 𝓤 H A W) y1 _ is1 $ fjoin ! $ owned ! T.the-row (Is T.the-row) (LL.makes T.the-type T′.the-plain 𝓤 H A) h _ is $ fjoin ! $ nothing ! $ done !
 
       -- what the lent call's triple binds outside: the local at l, lent for the lifetime α under the name δ
       abbrev to1 : ℕ → ℕ → GName → Lent1 .Ghost
@@ -251,10 +243,10 @@ module _ (S : Sort) (B1 : Sort) (P : Pair S) (f : Name) (F : Keyboard → B1 .ba
             use1 W (later (some (λ (δ : GName). ‵ (MutRef (named 0) (α ∷ []) T.the-row .own (lent-at l3 δ h) (vptr l3 0 ∷ [])) ⊛ ‵ (flent (α ∷ []) (Body (mem T.the-row) l3 0 δ))))) (lends 𝓤 H A W (α ∷ []) h l3 is) $ await ! tt $ pick ! (λ δ. split ! $
             move ! (2 ∷ 0 ∷ []) $ use2 W (raw (Lent1 .pre (to1 α l3 δ))) (goes1 α l3 δ) $
             calls-at ! fm Lent1 known (to1 α l3 δ) (and-then ! (load ! (from ! (stop !)) (look ! 4 refl)) (and-then ! (load ! (from ! (stop !)) (look ! 9 refl)) (no-more !))) (λ v.
-            use1 W (later (some (λ (r : S .base .Denot). ((‵ (flft (α ∷ []) fullShare) ⊛ ‵ ftrue) ⊛ ‵ (SR1 .own r (v ∷ []))) ⊛ raw (ensured 𝓤 H A in1 (lent1 S B1 P f F 𝓤 H A) (α ∷ [], tt) (lent-at l3 δ h, (y1, tt)) tt r)))) (id⊢ 𝓤 _) $ await ! tt $ pick ! (λ r.
+            use1 W (later (some (λ (r : S .base .Denot). ((‵ (flft (α ∷ []) fullShare) ⊛ ‵ ftrue) ⊛ ‵ (answerOf S .own r (v ∷ []))) ⊛ raw (ensured 𝓤 H A in1 (lent1 S B1 P f F 𝓤 H A) (α ∷ [], tt) (lent-at l3 δ h, (y1, tt)) tt r)))) (id⊢ 𝓤 _) $ await ! tt $ pick ! (λ r.
             split ! $ move ! (1 ∷ []) $ use1 W (some (λ (ws : Keyboard × (Unit {0} × Unit {0})). ‵ (lasts in1 (α ∷ [], tt) (lent-at l3 δ h, (y1, tt)) ws) ⊛ raw (fact 𝓤 ((r ≡ P .answer (F h y1)) × (ws .0 ≡ P .keyboard (F h y1)))))) (id⊢ 𝓤 _) $ pick ! (λ ws.
             split ! $ move ! (1 ∷ []) $ heard ! ((r ≡ P .answer (F h y1)) × (ws .0 ≡ P .keyboard (F h y1))) (λ e. fsplit ! $ move ! (2 ∷ []) $ split ! $ move ! (1 ∷ []) $
-            peeks ! SR1 (Is SR1) (shows 𝓤 H A SR1) r (v ∷ []) (λ is′.
+            peeks ! (answerOf S) (Is (answerOf S)) (shows 𝓤 H A (answerOf S)) r (v ∷ []) (λ is′.
             -- [what the answer owns; the token; the last value; true; the lender's part; the locals, of the lent one its end alone]
             land ! (from ! (stop !)) (init ! 9 refl (S .typed M 𝓤 H A W r v is′ .0)) $ rewrite ! 9 (λ (u : Val). ‵ (fat fullShare (S .τ) l4 0 u)) (ap only (S .tells r _ is′)) refl $
             -- the lifetime is ended, and the local is back at the record that the call left
@@ -277,21 +269,12 @@ module _ (S : Sort) (B1 : Sort) (P : Pair S) (f : Name) (F : Keyboard → B1 .ba
 
 -- ---- 2 arguments beside the keyboard
 module _ (S : Sort) (B1 : Sort) (B2 : Sort) (P : Pair S) (f : Name) (F : Keyboard → B1 .base .Denot → B2 .base .Denot → P .base .Denot) where
-  abbrev SR2 : RattleType
-  SR2 = plainly (S .base) (S .τ)
-
-  abbrev pair2 : Ty
-  pair2 = tyStruct (P .name) (tcons (S .τ) (tcons T′.mir tnil))
-
-  abbrev PR2 : RattleType
-  PR2 = plainly (P .base) pair2
-
   abbrev through2 : Fn
   through2 = record {
     lifetimes = 0;
     outlives = [];
     params = 3;
-    locals = local pair2 valueLocal ∷ local T′.mir valueLocal ∷ local (B1 .τ) valueLocal ∷ local (B2 .τ) valueLocal ∷ local T′.mir memorySlot ∷ local (S .τ) valueLocal ∷ local ref valueLocal ∷ local T′.mir valueLocal ∷ [];
+    locals = local (both S P) valueLocal ∷ local T′.mir valueLocal ∷ local (B1 .τ) valueLocal ∷ local (B2 .τ) valueLocal ∷ local T′.mir memorySlot ∷ local (S .τ) valueLocal ∷ local ref valueLocal ∷ local T′.mir valueLocal ∷ [];
     body = seq (assign (place 4 []) (rvOpd (copy (place 1 []))))
         (seq (assign (place 6 []) (addrOf (place 4 [])))
         (seq (call f (copy (place 6 []) ∷ copy (place 2 []) ∷ copy (place 3 []) ∷ []) (place 5 []))
@@ -320,10 +303,10 @@ module _ (S : Sort) (B1 : Sort) (B2 : Sort) (P : Pair S) (f : Name) (F : Keyboar
       abbrev Post2 : Val → SProp 𝓤
       Post2 = walkOf 𝓤 H A by2 stayed2 value2 .post ((tt, tt, tt, (h, (y1, (y2, tt))), (mach h ∷ [], (B1 .val y1 ∷ [], (B2 .val y2 ∷ [], tt)))), tt)
 
-      exits2 : (v : Val) → Is PR2 (F h y1 y2) (v ∷ []) → ent 𝓤 (emp 𝓤) (Post2 v)
+      exits2 : (v : Val) → Is (bothOf S P) (F h y1 y2) (v ∷ []) → ent 𝓤 (emp 𝓤) (Post2 v)
       exits2 v made =
           qed W [] ∵ suffices ! _ (ends-at 𝓤 H A by2 stayed2 value2 W ((tt, tt, tt, (h, (y1, (y2, tt))), (mach h ∷ [], (B1 .val y1 ∷ [], (B2 .val y2 ∷ [], tt)))), tt) v (F h y1 y2) (tt, (tt, (tt, tt))) (tt, (tt, (tt, tt)))) $ says ! refl $
-          owned ! PR2 (Is PR2) (P .makes M 𝓤 H A W) (F h y1 y2) _ made $ nothing ! $ owned ! (plainly (B2 .base) (B2 .τ)) (Is (plainly (B2 .base) (B2 .τ))) (B2 .makes M 𝓤 H A W) y2 _ is2 $ fjoin ! $ owned ! (plainly (B1 .base) (B1 .τ)) (Is (plainly (B1 .base) (B1 .τ))) (B1 .makes M 𝓤 H A W) y1 _ is1 $ fjoin ! $ owned ! T.the-row (Is T.the-row) (LL.makes T.the-type T′.the-plain 𝓤 H A) h _ is $ fjoin ! $ nothing ! $ done !
+          owned ! (bothOf S P) (Is (bothOf S P)) (P .makes M 𝓤 H A W) (F h y1 y2) _ made $ nothing ! $ owned ! (plainly (B2 .base) (B2 .τ)) (Is (plainly (B2 .base) (B2 .τ))) (B2 .makes M 𝓤 H A W) y2 _ is2 $ fjoin ! $ owned ! (plainly (B1 .base) (B1 .τ)) (Is (plainly (B1 .base) (B1 .τ))) (B1 .makes M 𝓤 H A W) y1 _ is1 $ fjoin ! $ owned ! T.the-row (Is T.the-row) (LL.makes T.the-type T′.the-plain 𝓤 H A) h _ is $ fjoin ! $ nothing ! $ done !
 
       -- what the lent call's triple binds outside: the local at l, lent for the lifetime α under the name δ
       abbrev to2 : ℕ → ℕ → GName → Lent2 .Ghost
@@ -346,10 +329,10 @@ module _ (S : Sort) (B1 : Sort) (B2 : Sort) (P : Pair S) (f : Name) (F : Keyboar
             use1 W (later (some (λ (δ : GName). ‵ (MutRef (named 0) (α ∷ []) T.the-row .own (lent-at l4 δ h) (vptr l4 0 ∷ [])) ⊛ ‵ (flent (α ∷ []) (Body (mem T.the-row) l4 0 δ))))) (lends 𝓤 H A W (α ∷ []) h l4 is) $ await ! tt $ pick ! (λ δ. split ! $
             move ! (2 ∷ 0 ∷ []) $ use2 W (raw (Lent2 .pre (to2 α l4 δ))) (goes2 α l4 δ) $
             calls-at ! fm Lent2 known (to2 α l4 δ) (and-then ! (load ! (from ! (stop !)) (look ! 4 refl)) (and-then ! (load ! (from ! (stop !)) (look ! 11 refl)) (and-then ! (load ! (from ! (stop !)) (look ! 9 refl)) (no-more !)))) (λ v.
-            use1 W (later (some (λ (r : S .base .Denot). ((‵ (flft (α ∷ []) fullShare) ⊛ ‵ ftrue) ⊛ ‵ (SR2 .own r (v ∷ []))) ⊛ raw (ensured 𝓤 H A in2 (lent2 S B1 B2 P f F 𝓤 H A) (α ∷ [], tt) (lent-at l4 δ h, (y1, (y2, tt))) tt r)))) (id⊢ 𝓤 _) $ await ! tt $ pick ! (λ r.
+            use1 W (later (some (λ (r : S .base .Denot). ((‵ (flft (α ∷ []) fullShare) ⊛ ‵ ftrue) ⊛ ‵ (answerOf S .own r (v ∷ []))) ⊛ raw (ensured 𝓤 H A in2 (lent2 S B1 B2 P f F 𝓤 H A) (α ∷ [], tt) (lent-at l4 δ h, (y1, (y2, tt))) tt r)))) (id⊢ 𝓤 _) $ await ! tt $ pick ! (λ r.
             split ! $ move ! (1 ∷ []) $ use1 W (some (λ (ws : Keyboard × (Unit {0} × (Unit {0} × Unit {0}))). ‵ (lasts in2 (α ∷ [], tt) (lent-at l4 δ h, (y1, (y2, tt))) ws) ⊛ raw (fact 𝓤 ((r ≡ P .answer (F h y1 y2)) × (ws .0 ≡ P .keyboard (F h y1 y2)))))) (id⊢ 𝓤 _) $ pick ! (λ ws.
             split ! $ move ! (1 ∷ []) $ heard ! ((r ≡ P .answer (F h y1 y2)) × (ws .0 ≡ P .keyboard (F h y1 y2))) (λ e. fsplit ! $ move ! (2 ∷ []) $ split ! $ move ! (1 ∷ []) $
-            peeks ! SR2 (Is SR2) (shows 𝓤 H A SR2) r (v ∷ []) (λ is′.
+            peeks ! (answerOf S) (Is (answerOf S)) (shows 𝓤 H A (answerOf S)) r (v ∷ []) (λ is′.
             -- [what the answer owns; the token; the last value; true; the lender's part; the locals, of the lent one its end alone]
             land ! (from ! (stop !)) (init ! 9 refl (S .typed M 𝓤 H A W r v is′ .0)) $ rewrite ! 9 (λ (u : Val). ‵ (fat fullShare (S .τ) l5 0 u)) (ap only (S .tells r _ is′)) refl $
             -- the lifetime is ended, and the local is back at the record that the call left
@@ -372,21 +355,12 @@ module _ (S : Sort) (B1 : Sort) (B2 : Sort) (P : Pair S) (f : Name) (F : Keyboar
 
 -- ---- 2 arguments beside the keyboard, and a lent slice of bytes after them
 module _ (S : Sort) (B1 : Sort) (B2 : Sort) (P : Pair S) (f : Name) (F : Keyboard → B1 .base .Denot → B2 .base .Denot → List ℕ → P .base .Denot) where
-  abbrev SRs2 : RattleType
-  SRs2 = plainly (S .base) (S .τ)
-
-  abbrev pairs2 : Ty
-  pairs2 = tyStruct (P .name) (tcons (S .τ) (tcons T′.mir tnil))
-
-  abbrev PRs2 : RattleType
-  PRs2 = plainly (P .base) pairs2
-
   abbrev throughs2 : Fn
   throughs2 = record {
     lifetimes = 1;
     outlives = [];
     params = 4;
-    locals = local pairs2 valueLocal ∷ local T′.mir valueLocal ∷ local (B1 .τ) valueLocal ∷ local (B2 .τ) valueLocal ∷ local bytes valueLocal ∷ local T′.mir memorySlot ∷ local (S .τ) valueLocal ∷ local ref valueLocal ∷ local T′.mir valueLocal ∷ [];
+    locals = local (both S P) valueLocal ∷ local T′.mir valueLocal ∷ local (B1 .τ) valueLocal ∷ local (B2 .τ) valueLocal ∷ local bytes valueLocal ∷ local T′.mir memorySlot ∷ local (S .τ) valueLocal ∷ local ref valueLocal ∷ local T′.mir valueLocal ∷ [];
     body = seq (assign (place 5 []) (rvOpd (copy (place 1 []))))
         (seq (assign (place 7 []) (addrOf (place 5 [])))
         (seq (call f (copy (place 7 []) ∷ copy (place 2 []) ∷ copy (place 3 []) ∷ copy (place 4 []) ∷ []) (place 6 []))
@@ -418,10 +392,10 @@ module _ (S : Sort) (B1 : Sort) (B2 : Sort) (P : Pair S) (f : Name) (F : Keyboar
       abbrev Posts2 : Val → SProp 𝓤
       Posts2 = walkOf 𝓤 H A bys2 stayeds2 values2 .post (((κ, tt), (q, tt), tt, (h, (y1, (y2, (z, tt)))), (mach h ∷ [], (B1 .val y1 ∷ [], (B2 .val y2 ∷ [], (slice-vals z, tt))))), tt)
 
-      exitss2 : (v : Val) → Is PRs2 (F h y1 y2 (now z)) (v ∷ []) → ent 𝓤 (⋆ 𝓤 H A ((‵ (flft κ q) ⊛ ‵ ftrue) ∷ ‵ Bytess2 ∷ [])) (Posts2 v)
+      exitss2 : (v : Val) → Is (bothOf S P) (F h y1 y2 (now z)) (v ∷ []) → ent 𝓤 (⋆ 𝓤 H A ((‵ (flft κ q) ⊛ ‵ ftrue) ∷ ‵ Bytess2 ∷ [])) (Posts2 v)
       exitss2 v made =
           qed W ((‵ (flft κ q) ⊛ ‵ ftrue) ∷ ‵ Bytess2 ∷ []) ∵ suffices ! _ (ends-at 𝓤 H A bys2 stayeds2 values2 W (((κ, tt), (q, tt), tt, (h, (y1, (y2, (z, tt)))), (mach h ∷ [], (B1 .val y1 ∷ [], (B2 .val y2 ∷ [], (slice-vals z, tt))))), tt) v (F h y1 y2 (now z)) (tt, (tt, (tt, (tt, tt)))) (tt, (tt, (tt, (tt, tt))))) $ says ! refl $ frame ! $
-          owned ! PRs2 (Is PRs2) (P .makes M 𝓤 H A W) (F h y1 y2 (now z)) _ made $ nothing ! $ move ! (2 ∷ 0 ∷ []) $ fjoin ! $ owned ! (plainly (B2 .base) (B2 .τ)) (Is (plainly (B2 .base) (B2 .τ))) (B2 .makes M 𝓤 H A W) y2 _ is2 $ fjoin ! $ owned ! (plainly (B1 .base) (B1 .τ)) (Is (plainly (B1 .base) (B1 .τ))) (B1 .makes M 𝓤 H A W) y1 _ is1 $ fjoin ! $ owned ! T.the-row (Is T.the-row) (LL.makes T.the-type T′.the-plain 𝓤 H A) h _ is $ fjoin ! $ done !
+          owned ! (bothOf S P) (Is (bothOf S P)) (P .makes M 𝓤 H A W) (F h y1 y2 (now z)) _ made $ nothing ! $ move ! (2 ∷ 0 ∷ []) $ fjoin ! $ owned ! (plainly (B2 .base) (B2 .τ)) (Is (plainly (B2 .base) (B2 .τ))) (B2 .makes M 𝓤 H A W) y2 _ is2 $ fjoin ! $ owned ! (plainly (B1 .base) (B1 .τ)) (Is (plainly (B1 .base) (B1 .τ))) (B1 .makes M 𝓤 H A W) y1 _ is1 $ fjoin ! $ owned ! T.the-row (Is T.the-row) (LL.makes T.the-type T′.the-plain 𝓤 H A) h _ is $ fjoin ! $ done !
 
       -- what the lent call's triple binds outside: the local at l, lent for the lifetime α under the name δ
       abbrev tos2 : ℕ → ℕ → GName → Lents2 .Ghost
@@ -445,10 +419,10 @@ module _ (S : Sort) (B1 : Sort) (B2 : Sort) (P : Pair S) (f : Name) (F : Keyboar
             use1 W (later (some (λ (δ : GName). ‵ (MutRef (named 0) (α ∷ []) T.the-row .own (lent-at l5 δ h) (vptr l5 0 ∷ [])) ⊛ ‵ (flent (α ∷ []) (Body (mem T.the-row) l5 0 δ))))) (lends 𝓤 H A W (α ∷ []) h l5 is) $ await ! tt $ pick ! (λ δ. split ! $
             move ! (2 ∷ 22 ∷ 0 ∷ 20 ∷ []) $ join ! $ use3 W (raw (Lents2 .pre (tos2 α l5 δ))) (goess2 α l5 δ) $
             calls-at ! fm Lents2 known (tos2 α l5 δ) (and-then ! (load ! (from ! (stop !)) (look ! 4 refl)) (and-then ! (load ! (from ! (stop !)) (look ! 13 refl)) (and-then ! (load ! (from ! (stop !)) (look ! 11 refl)) (and-then ! (load ! (from ! (stop !)) (look ! 9 refl)) (no-more !))))) (λ v.
-            use1 W (later (some (λ (r : S .base .Denot). ((‵ (flft (α ∷ []) fullShare) ⊛ ‵ (flft κ q) ⊛ ‵ ftrue) ⊛ ‵ (SRs2 .own r (v ∷ []))) ⊛ raw (ensured 𝓤 H A ins2 (lents2 S B1 B2 P f F 𝓤 H A) (α ∷ [], (κ, tt)) (lent-at l5 δ h, (y1, (y2, (z, tt)))) tt r)))) (id⊢ 𝓤 _) $ await ! tt $ pick ! (λ r.
+            use1 W (later (some (λ (r : S .base .Denot). ((‵ (flft (α ∷ []) fullShare) ⊛ ‵ (flft κ q) ⊛ ‵ ftrue) ⊛ ‵ (answerOf S .own r (v ∷ []))) ⊛ raw (ensured 𝓤 H A ins2 (lents2 S B1 B2 P f F 𝓤 H A) (α ∷ [], (κ, tt)) (lent-at l5 δ h, (y1, (y2, (z, tt)))) tt r)))) (id⊢ 𝓤 _) $ await ! tt $ pick ! (λ r.
             split ! $ move ! (1 ∷ []) $ use1 W (some (λ (ws : Keyboard × (Unit {0} × (Unit {0} × (Unit {0} × Unit {0})))). ‵ (lasts ins2 (α ∷ [], (κ, tt)) (lent-at l5 δ h, (y1, (y2, (z, tt)))) ws) ⊛ raw (fact 𝓤 ((r ≡ P .answer (F h y1 y2 (now z))) × (ws .0 ≡ P .keyboard (F h y1 y2 (now z))))))) (id⊢ 𝓤 _) $ pick ! (λ ws.
             split ! $ move ! (1 ∷ []) $ heard ! ((r ≡ P .answer (F h y1 y2 (now z))) × (ws .0 ≡ P .keyboard (F h y1 y2 (now z)))) (λ e. fsplit ! $ move ! (2 ∷ []) $ split ! $ move ! (1 ∷ []) $
-            peeks ! SRs2 (Is SRs2) (shows 𝓤 H A SRs2) r (v ∷ []) (λ is′.
+            peeks ! (answerOf S) (Is (answerOf S)) (shows 𝓤 H A (answerOf S)) r (v ∷ []) (λ is′.
             -- [what the answer owns; the tokens; the last value; true; the lender's part; the locals, of the lent one its end alone; what the slice owns]
             land ! (from ! (stop !)) (init ! 9 refl (S .typed M 𝓤 H A W r v is′ .0)) $ rewrite ! 9 (λ (u : Val). ‵ (fat fullShare (S .τ) l6 0 u)) (ap only (S .tells r _ is′)) refl $
             -- the lifetime is ended, and the local is back at the record that the call left
