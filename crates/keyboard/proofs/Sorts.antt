@@ -53,6 +53,8 @@ changed = record {
   tells = LL.tells C.the-type C′.the-laws;
   typed = λ M 𝓤 H A W x v is. LL.lawful C.the-type C′.the-laws 𝓤 H A W .typed x _ is;
   parts = λ r vs is. (LL.owed C.the-type C′.the-laws r vs is .0, LL.owed C.the-type C′.the-laws r vs is .1 .0);
+  joined = λ r a k. LL.owes C.the-type C′.the-laws r (a, (k, tt));
+  makes = λ M 𝓤 H A W. LL.makes C.the-type C′.the-plain 𝓤 H A;
 }
 
 abbrev pub fetched : Pair got
@@ -64,6 +66,8 @@ fetched = record {
   tells = LL.tells F.the-type F′.the-laws;
   typed = λ M 𝓤 H A W x v is. LL.lawful F.the-type F′.the-laws 𝓤 H A W .typed x _ is;
   parts = λ r vs is. (LL.owed F.the-type F′.the-laws r vs is .0, LL.owed F.the-type F′.the-laws r vs is .1 .0);
+  joined = λ r a k. LL.owes F.the-type F′.the-laws r (a, (k, tt));
+  makes = λ M 𝓤 H A W. LL.makes F.the-type F′.the-plain 𝓤 H A;
 }
 
 abbrev pub answered : Pair byte
@@ -75,6 +79,8 @@ answered = record {
   tells = LL.tells A.the-type A′.the-laws;
   typed = λ M 𝓤 H A₀ W x v is. LL.lawful A.the-type A′.the-laws 𝓤 H A₀ W .typed x _ is;
   parts = λ r vs is. (LL.owed A.the-type A′.the-laws r vs is .0, LL.owed A.the-type A′.the-laws r vs is .1 .0);
+  joined = λ r a k. LL.owes A.the-type A′.the-laws r (a, (k, tt));
+  makes = λ M 𝓤 H A₀ W. LL.makes A.the-type A′.the-plain 𝓤 H A₀;
 }
 
 abbrev pub clocked : Pair yes-no
@@ -86,4 +92,6 @@ clocked = record {
   tells = LL.tells K.the-type K′.the-laws;
   typed = λ M 𝓤 H A W x v is. LL.lawful K.the-type K′.the-laws 𝓤 H A W .typed x _ is;
   parts = λ r vs is. (LL.owed K.the-type K′.the-laws r vs is .0, LL.owed K.the-type K′.the-laws r vs is .1 .0);
+  joined = λ r a k. LL.owes K.the-type K′.the-laws r (a, (k, tt));
+  makes = λ M 𝓤 H A W. LL.makes K.the-type K′.the-plain 𝓤 H A;
 }

@@ -15,6 +15,11 @@ use Rattle.keyboard.proofs.lent.keyboard_get_report as L2
 use Rattle.keyboard.proofs.lent.keyboard_set_report as L3
 use Rattle.keyboard.proofs.lent.keyboard_set_idle as L4
 use Rattle.keyboard.proofs.lent.keyboard_clock as L5
+use Rattle.keyboard.proofs.through.set_keyboard_report as T1
+use Rattle.keyboard.proofs.through.get_report as T2
+use Rattle.keyboard.proofs.through.set_report as T3
+use Rattle.keyboard.proofs.through.set_idle as T4
+use Rattle.keyboard.proofs.through.clock as T5
 
 pub new : Decides N.ended (λ M. N.spec) (λ M. N.clauses)
 new M 𝓤 H A m r = record { same = refl; free = λ κs a g. refl; only = λ κs a g g′ x x′ ws ws′. both 𝓤 _ _ _ (λ p q. (p ∙ sym q, refl)) }
@@ -57,3 +62,18 @@ keyboard-set-idle M 𝓤 H A m r = record { same = refl; free = λ κs a g. refl
 
 pub keyboard-clock : Decides L5.ended (λ M. L5.spec) (λ M. L5.clauses)
 keyboard-clock M 𝓤 H A m r = record { same = refl; free = λ κs a g. refl; only = λ κs a g g′ x x′ ws ws′. both 𝓤 _ _ _ (λ p q. (p .0 ∙ sym (q .0), ap (λ w. (w, tt)) (p .1 ∙ sym (q .1)))) }
+
+pub through-set-keyboard-report : Decides T1.ended (λ M. T1.spec) (λ M. T1.clauses)
+through-set-keyboard-report M 𝓤 H A m r = record { same = refl; free = λ κs a g. refl; only = λ κs a g g′ x x′ ws ws′. both 𝓤 _ _ _ (λ p q. (p ∙ sym q, refl)) }
+
+pub through-get-report : Decides T2.ended (λ M. T2.spec) (λ M. T2.clauses)
+through-get-report M 𝓤 H A m r = record { same = refl; free = λ κs a g. refl; only = λ κs a g g′ x x′ ws ws′. both 𝓤 _ _ _ (λ p q. (p ∙ sym q, refl)) }
+
+pub through-set-report : Decides T3.ended (λ M. T3.spec) (λ M. T3.clauses)
+through-set-report M 𝓤 H A m r = record { same = refl; free = λ κs a g. refl; only = λ κs a g g′ x x′ ws ws′. both 𝓤 _ _ _ (λ p q. (p ∙ sym q, refl)) }
+
+pub through-set-idle : Decides T4.ended (λ M. T4.spec) (λ M. T4.clauses)
+through-set-idle M 𝓤 H A m r = record { same = refl; free = λ κs a g. refl; only = λ κs a g g′ x x′ ws ws′. both 𝓤 _ _ _ (λ p q. (p ∙ sym q, refl)) }
+
+pub through-clock : Decides T5.ended (λ M. T5.spec) (λ M. T5.clauses)
+through-clock M 𝓤 H A m r = record { same = refl; free = λ κs a g. refl; only = λ κs a g g′ x x′ ws ws′. both 𝓤 _ _ _ (λ p q. (p ∙ sym q, refl)) }

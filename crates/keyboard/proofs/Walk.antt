@@ -44,11 +44,11 @@ use Rattle.keyboard.specs.declared.Keyboard.{Keyboard}
 use Rattle.keyboard.proofs.Keyboard as T
 use Rattle.keyboard.proofs.Keyboard.Laws as T′
 
-abbrev mach : Keyboard → Val
+abbrev pub mach : Keyboard → Val
 mach = LL.val T.the-type T′.the-laws
 
 -- a row with its one MIR type written out, and that it is as it was passed at a function's exit: of a plain type this is the row itself, by computation
-abbrev plainly : RattleType → Ty → RattleType
+abbrev pub plainly : RattleType → Ty → RattleType
 plainly R τ = record { Denot = R .Denot; mir = τ ∷ []; written = R .written; reaches = R .reaches; own = R .own; exit = λ k. unchanged; coded = R .coded }
 
 pub record Sort : Type 2 where
@@ -67,6 +67,8 @@ pub record Pair (S : Sort) : Type 2 where
   pub tells : Tells base (Is base) (λ r. vstruct (vcons (S .val (answer r)) (vcons (mach (keyboard r)) vnil)) ∷ [])
   pub typed : (M : Type 1) (𝓤 : URA M) (H : Heap 𝓤) (A : Atoms 𝓤) → Given 𝓤 H A → (x : base .Denot) (v : Val) → Is base x (v ∷ []) → Typed (tyStruct name (tcons (S .τ) (tcons T′.mir tnil)) ∷ []) (v ∷ [])
   pub parts : (r : base .Denot) (vs : List Val) → Is base r vs → Is (S .base) (answer r) (S .val (answer r) ∷ []) × Is T.the-row (keyboard r) (mach (keyboard r) ∷ [])
+  pub joined : (r : base .Denot) → Is (S .base) (answer r) (S .val (answer r) ∷ []) → Is T.the-row (keyboard r) (mach (keyboard r) ∷ []) → Is base r (vstruct (vcons (S .val (answer r)) (vcons (mach (keyboard r)) vnil)) ∷ [])
+  pub makes : (M : Type 1) (𝓤 : URA M) (H : Heap 𝓤) (A : Atoms 𝓤) → Given 𝓤 H A → Makes 𝓤 H A base (Is base)
 
 -- ---- 0 arguments beside the keyboard
 module _ (S : Sort) (P : Pair S) (f : Name) (F : Keyboard → P .base .Denot) where

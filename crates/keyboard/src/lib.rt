@@ -1,7 +1,9 @@
 // keyberon's keyboard.rs: the last report, the lights, the requests that the USB stack hands on, the idle clock and the
-// report descriptor. By value; lent.rt has the same calls over a record that is lent. Document 01, "Report and keyboard".
+// report descriptor. By value; lent.rt has the same calls over a record that is lent, and through.rt calls those with a record
+// that is at hand. Document 01, "Report and keyboard".
 // Assumes nothing.
 pub mod lent;
+pub mod through;
 
 use codes::KbHidReport;
 ghost use mathlib.Core.Path.{_≡_};

@@ -1,4 +1,6 @@
-// The lines of the keyboard: `report`, `get`, `set`, `rate`, `idling`, `clock`, `descriptor`. Assumes nothing.
+// The lines of the keyboard: `report`, `get`, `set`, `rate`, `idling`, `clock`, `descriptor`. `report`, `get`, `set` and `rate`
+// go through the lent calls; the calls of `clock` go by turns, the first by value, the next through the lent call, so both are run.
+// Assumes nothing.
 use super::out;
 use super::words;
 use super::words::Bytes;
@@ -6,7 +8,9 @@ use super::words::Number;
 use super::words::Words;
 use super::world::World;
 use codes::KbHidReport;
+use keyboard::Clocked;
 use keyboard::Keyboard;
+use keyboard::through;
 
 // A report of eight bytes.
 fn report_of(bytes: &[u8]) -> KbHidReport {
@@ -24,7 +28,7 @@ fn reported(bytes: &[u8], out: &mut [u8], world: World) -> World {
         return world.wrote(out::put(out, world.out, b'?'));
     }
     let keyboard = world.keyboard;
-    let changed = keyboard.set_keyboard_report(report_of(bytes));
+    let changed = through::set_keyboard_report(keyboard, report_of(bytes));
     let after = changed.keyboard;
     let at = out::put_all(out, world.out, b"changed ");
     world
@@ -56,7 +60,7 @@ pub fn get(line: &[u8], w: Words, out: &mut [u8], world: World) -> World {
         return world.wrote(out::put(out, world.out, b'?'));
     };
     let keyboard = world.keyboard;
-    let fetched = keyboard.get_report((kind % 256) as u8, (id % 256) as u8);
+    let fetched = through::get_report(keyboard, (kind % 256) as u8, (id % 256) as u8);
     let got = fetched.got;
     let report = got.report;
     let bytes = report.bytes;
@@ -77,7 +81,7 @@ fn put_leds(keyboard: Keyboard, out: &mut [u8], waiting: usize) -> usize {
 
 fn set_to(kind: u8, id: u8, bytes: &[u8], out: &mut [u8], world: World) -> World {
     let keyboard = world.keyboard;
-    let answered = keyboard.set_report(kind, id, bytes);
+    let answered = through::set_report(keyboard, kind, id, bytes);
     let after = answered.keyboard;
     let a = out::put_number(out, world.out, words::wide(answered.number));
     let b = out::put_all(out, a, b" leds ");
@@ -110,7 +114,7 @@ pub fn rate(line: &[u8], w: Words, out: &mut [u8], world: World) -> World {
         return world.wrote(out::put(out, world.out, b'?'));
     };
     let keyboard = world.keyboard;
-    let answered = keyboard.set_idle((n % 256) as u8);
+    let answered = through::set_idle(keyboard, (n % 256) as u8);
     let after = answered.keyboard;
     world
         .typing(after)
@@ -138,15 +142,23 @@ struct Run {
     keyboard: Keyboard,
 }
 
+// The clock call of this number: every other one goes through the lent call.
+fn clocked(keyboard: Keyboard, i: usize) -> Clocked {
+    if i % 2 == 0 {
+        return keyboard.clock();
+    }
+    through::clock(keyboard)
+}
+
 // So many clock calls.
 fn clocks(keyboard: Keyboard, n: usize) -> Run {
     let mut now = keyboard;
     let mut due: usize = 0;
     let mut i = 0;
     while i < n {
-        let clocked = now.clock();
-        now = clocked.keyboard;
-        due = more(due, clocked.due);
+        let done = clocked(now, i);
+        now = done.keyboard;
+        due = more(due, done.due);
         i += 1;
     }
     Run { due, keyboard: now }
