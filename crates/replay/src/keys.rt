@@ -1,5 +1,6 @@
 // The lines of the layout's calls: `p`, `r`, `t`, `k`. Assumes nothing.
 use super::desk;
+use super::held;
 use super::lent;
 use super::lent::FILL;
 use super::out;
@@ -86,18 +87,18 @@ fn put_told(told: Told, codes: &[u8], out: &mut [u8], waiting: usize) -> usize {
 
 // A call into a lent buffer. The layout is put back as the call left it.
 fn called(image: &[u8], call: Call, desk: &mut [u16], codes: &mut [u8]) -> Answer {
-    let layout = desk::load(desk);
+    let layout = held::load(desk);
     match call {
         Call::Event(event) => {
             let done = layout.event(image, event, codes);
             let after = done.layout;
-            desk::store(after, desk);
+            held::store(after, desk);
             done.answer
         }
         Call::Tick => {
             let done = layout.tick(image, codes);
             let after = done.layout;
-            desk::store(after, desk);
+            held::store(after, desk);
             done.answer
         }
         Call::Keycodes => layout.keycodes(image, codes),
@@ -119,7 +120,7 @@ fn told(
 // A call into a buffer of as many bytes as there is room. More than 128 is as good as 128: no layout has so many codes.
 pub fn ask(image: &[u8], call: Call, desk: &mut [u16], out: &mut [u8], waiting: usize) -> usize {
     let mut codes = [FILL; 128];
-    let room = desk::get(desk, desk::ROOM) as usize;
+    let room = desk::number(desk, desk::ROOM);
     if room <= 128 {
         return told(image, call, desk, &mut codes[..room], out, waiting);
     }
@@ -138,16 +139,13 @@ pub fn event(
 ) -> usize {
     let i = words::byte_at(line, w, 1);
     let j = words::byte_at(line, w, 2);
-    if 255 < i {
-        return out::put(out, waiting, b'?');
-    }
-    if 255 < j {
-        return out::put(out, waiting, b'?');
+    if !words::are_bytes(i, j) {
+        return out::unread(out, waiting);
     }
     if press {
         return ask(
             image,
-            Call::Event(Event::Press((i % 256) as u8, (j % 256) as u8)),
+            Call::Event(Event::Press(words::low(i), words::low(j))),
             desk,
             out,
             waiting,
@@ -155,7 +153,7 @@ pub fn event(
     }
     ask(
         image,
-        Call::Event(Event::Release((i % 256) as u8, (j % 256) as u8)),
+        Call::Event(Event::Release(words::low(i), words::low(j))),
         desk,
         out,
         waiting,

@@ -4,71 +4,108 @@
 mod board;
 mod bounce;
 mod desk;
+mod held;
 mod keys;
 mod lent;
 mod out;
 mod parts;
 mod table;
 mod words;
-mod world;
 
 use codes::KbHidReport;
+use keyboard::Keyboard;
 use keys::Call;
 use libc::STDIN_FILENO;
 use words::Bytes;
 use words::Words;
-use world::World;
 ghost use Prim.Native.Nat.{_≤_};
 ghost use lib.ListN.{length};
 
+// How much of the line, and of the answers, is in their buffers. A line longer than its buffer counts one more than fits.
+struct Filled {
+    line: usize,
+    out: usize,
+}
+
 struct Came {
     go: bool,
-    world: World,
+    filled: Filled,
 }
 
 // `codes HEX`: the report of these codes.
 fn answer_codes(word: &[u8], scratch: &mut [u8], out: &mut [u8], waiting: usize) -> usize {
     let Bytes::Count(n) = words::read_hex(word, scratch) else {
-        return out::put(out, waiting, b'?');
+        return out::unread(out, waiting);
     };
     let report = KbHidReport::from_codes(scratch, n);
     let b = report.bytes;
     out::put_hex(out, waiting, &b)
 }
 
-// The lines of the keyboard, by their commands; then those that set a part of the layout.
+// The lines that set a part of the layout, or a buffer's length, by their commands; all others cannot be read.
+fn answer_part(line: &[u8], w: Words, desk: &mut [u16], out: &mut [u8], waiting: usize) -> usize {
+    let command = words::word(line, w, 0);
+    let count = w.count;
+    if count == 6 && words::is(command, b"state") {
+        return parts::state(line, w, desk, out, waiting);
+    }
+    if count == 6 && words::is(command, b"queue") {
+        return parts::queue(line, w, desk, out, waiting);
+    }
+    if count == 3 && words::is(command, b"counts") {
+        return parts::counts(line, w, desk, out, waiting);
+    }
+    if count == 5 && words::is(command, b"wait") {
+        return parts::wait(line, w, desk, out, waiting);
+    }
+    if count == 1 && words::is(command, b"idle") {
+        return parts::idle(line, desk, out, waiting);
+    }
+    if count == 2 && words::is(command, b"default") {
+        return parts::one(line, w, desk::DEFAULT, desk, out, waiting);
+    }
+    if count == 2 && words::is(command, b"room") {
+        return parts::one(line, w, desk::ROOM, desk, out, waiting);
+    }
+    if count == 2 && words::is(command, b"space") {
+        return parts::one(line, w, desk::SPACE, desk, out, waiting);
+    }
+    out::unread(out, waiting)
+}
+
+// The lines of the keyboard, by their commands; then those of parts.
 fn answer_board(
     line: &[u8],
     w: Words,
     scratch: &mut [u8],
     desk: &mut [u16],
     out: &mut [u8],
-    world: World,
-) -> World {
+    waiting: usize,
+) -> usize {
     let command = words::word(line, w, 0);
     let count = w.count;
     if count == 2 && words::is(command, b"report") {
-        return board::report(line, w, scratch, out, world);
+        return board::report(line, w, scratch, desk, out, waiting);
     }
     if count == 3 && words::is(command, b"get") {
-        return board::get(line, w, out, world);
+        return board::get(line, w, desk, out, waiting);
     }
     if count == 4 && words::is(command, b"set") {
-        return board::set(line, w, scratch, out, world);
+        return board::set(line, w, scratch, desk, out, waiting);
     }
     if count == 2 && words::is(command, b"rate") {
-        return board::rate(line, w, out, world);
+        return board::rate(line, w, desk, out, waiting);
     }
     if count == 3 && words::is(command, b"idling") {
-        return board::idling(line, w, out, world);
+        return board::idling(line, w, desk, out, waiting);
     }
     if count == 2 && words::is(command, b"clock") {
-        return board::clock(line, w, out, world);
+        return board::clock(line, w, desk, out, waiting);
     }
     if count == 1 && words::is(command, b"descriptor") {
-        return board::descriptor(out, world);
+        return board::descriptor(out, waiting);
     }
-    world.wrote(answer_part(line, w, desk, out, world.out))
+    answer_part(line, w, desk, out, waiting)
 }
 
 // The lines of the debouncer, by their commands; then the keyboard's.
@@ -78,38 +115,53 @@ fn answer_bounce(
     scratch: &mut [u8],
     desk: &mut [u16],
     out: &mut [u8],
-    world: World,
-) -> World {
+    waiting: usize,
+) -> usize {
     let command = words::word(line, w, 0);
     let count = w.count;
     if count == 2 && words::is(command, b"scan") {
-        return bounce::scan(line, w, scratch, out, world);
+        return bounce::scan(line, w, scratch, desk, out, waiting);
     }
     if count == 2 && words::is(command, b"update") {
-        return bounce::update(line, w, scratch, out, world);
+        return bounce::update(line, w, scratch, desk, out, waiting);
     }
     if count == 1 && words::is(command, b"picture") {
-        return bounce::picture(out, world);
+        return bounce::picture(desk, out, waiting);
     }
     if count == 5 && words::is(command, b"debounce") {
-        return bounce::debounce(line, w, scratch, out, world);
+        return bounce::debounce(line, w, scratch, desk, out, waiting);
     }
     if count == 7 && words::is(command, b"debouncer") {
-        return bounce::debouncer(line, w, scratch, out, world);
+        return bounce::debouncer(line, w, scratch, desk, out, waiting);
     }
-    if count == 2 && words::is(command, b"space") {
-        return bounce::space(line, w, out, world);
-    }
-    answer_board(line, w, scratch, desk, out, world)
+    answer_board(line, w, scratch, desk, out, waiting)
 }
 
-// Whether a line is a call of the layout: its command has one letter.
-fn is_call(line: &[u8], w: Words) -> bool {
+// The lines of codes and tables, by their commands; then the debouncer's.
+fn answer_table(
+    line: &[u8],
+    w: Words,
+    scratch: &mut [u8],
+    table: &mut [u8],
+    desk: &mut [u16],
+    out: &mut [u8],
+    waiting: usize,
+) -> usize {
     let command = words::word(line, w, 0);
-    command.len() == 1
+    let count = w.count;
+    if count == 2 && words::is(command, b"codes") {
+        return answer_codes(words::word(line, w, 1), scratch, out, waiting);
+    }
+    if count == 2 && words::is(command, b"image") {
+        return table::image(line, w, scratch, table, desk, out, waiting);
+    }
+    if count == 3 && words::is(command, b"areas") {
+        return table::areas(line, w, scratch, out, waiting);
+    }
+    answer_bounce(line, w, scratch, desk, out, waiting)
 }
 
-// The lines of the layout's calls, by their commands.
+// The lines of the layout's calls, by their commands, of one letter.
 fn answer_call(
     line: &[u8],
     w: Words,
@@ -132,93 +184,42 @@ fn answer_call(
     if count == 1 && words::is(command, b"k") {
         return keys::ask(image, Call::Keycodes, desk, out, waiting);
     }
-    out::put(out, waiting, b'?')
-}
-
-// The lines that set a part of the layout, by their commands; the others cannot be read.
-fn answer_part(line: &[u8], w: Words, desk: &mut [u16], out: &mut [u8], waiting: usize) -> usize {
-    let command = words::word(line, w, 0);
-    let count = w.count;
-    if count == 2 && words::is(command, b"room") {
-        return parts::one(line, w, desk::ROOM, desk, out, waiting);
-    }
-    if count == 2 && words::is(command, b"default") {
-        return parts::one(line, w, desk::DEFAULT, desk, out, waiting);
-    }
-    if count == 3 && words::is(command, b"counts") {
-        return parts::counts(line, w, desk, out, waiting);
-    }
-    if count == 6 && words::is(command, b"state") {
-        return parts::state(line, w, desk, out, waiting);
-    }
-    if count == 6 && words::is(command, b"queue") {
-        return parts::queue(line, w, desk, out, waiting);
-    }
-    if count == 5 && words::is(command, b"wait") {
-        return parts::wait(line, w, desk, out, waiting);
-    }
-    if count == 1 && words::is(command, b"idle") {
-        return parts::idle(line, desk, out, waiting);
-    }
-    out::put(out, waiting, b'?')
+    out::unread(out, waiting)
 }
 
 fn answer(
     line: &[u8],
-    w: Words,
     scratch: &mut [u8],
     table: &mut [u8],
     desk: &mut [u16],
     out: &mut [u8],
-    world: World,
-) -> World {
-    let image = words::first(table, world.image);
-    if is_call(line, w) {
-        return world.wrote(answer_call(line, w, image, desk, out, world.out));
-    }
+    waiting: usize,
+) -> usize {
+    let w = words::split(line);
     let command = words::word(line, w, 0);
-    let count = w.count;
-    if count == 2 && words::is(command, b"codes") {
-        return world.wrote(answer_codes(words::word(line, w, 1), scratch, out, world.out));
+    if command.len() == 1 {
+        let image = words::first(table, desk::number(desk, desk::IMAGE));
+        return answer_call(line, w, image, desk, out, waiting);
     }
-    if count == 2 && words::is(command, b"image") {
-        return table::image(line, w, scratch, table, desk, out, world);
-    }
-    if count == 3 && words::is(command, b"areas") {
-        return world.wrote(table::areas(line, w, scratch, out, world.out));
-    }
-    answer_bounce(line, w, scratch, desk, out, world)
+    answer_table(line, w, scratch, table, desk, out, waiting)
 }
 
-// The answer to the line that is held. A line that did not fit its buffer cannot be read.
-fn answer_held(
-    line: &[u8],
-    scratch: &mut [u8],
-    table: &mut [u8],
-    desk: &mut [u16],
-    out: &mut [u8],
-    world: World,
-) -> World {
-    if world.line <= line.len() {
-        let part = words::first(line, world.line);
-        return answer(part, words::split(part), scratch, table, desk, out, world);
-    }
-    world.wrote(out::put(out, world.out, b'?'))
-}
-
-// The answer, its newline, and no line.
+// The answer to the line that is held, and its newline. A line that did not fit its buffer cannot be read.
 fn end_line(
     line: &[u8],
+    held: usize,
     scratch: &mut [u8],
     table: &mut [u8],
     desk: &mut [u16],
     out: &mut [u8],
-    world: World,
-) -> World {
-    let answered = answer_held(line, scratch, table, desk, out, world);
-    let mut ended = answered.wrote(out::put(out, answered.out, b'\n'));
-    ended.line = 0;
-    ended
+    waiting: usize,
+) -> usize {
+    if line.len() < held {
+        let at = out::unread(out, waiting);
+        return out::put(out, at, b'\n');
+    }
+    let at = answer(words::first(line, held), scratch, table, desk, out, waiting);
+    out::put(out, at, b'\n')
 }
 
 // Where the line that `at` is in ends: at its newline, or where the input does.
@@ -260,14 +261,20 @@ fn take(
     table: &mut [u8],
     desk: &mut [u16],
     out: &mut [u8],
-    world: World,
-) -> World {
-    let mut now = world;
-    now.line = append(bytes, line, world.line);
+    filled: Filled,
+) -> Filled {
+    let held = append(bytes, line, filled.line);
     if ends {
-        return end_line(line, scratch, table, desk, out, now);
+        let waiting = end_line(line, held, scratch, table, desk, out, filled.out);
+        return Filled {
+            line: 0,
+            out: waiting,
+        };
     }
-    now
+    Filled {
+        line: held,
+        out: filled.out,
+    }
 }
 
 fn feed(
@@ -277,9 +284,9 @@ fn feed(
     table: &mut [u8],
     desk: &mut [u16],
     out: &mut [u8],
-    world: World,
-) -> World {
-    let mut now = world;
+    filled: Filled,
+) -> Filled {
+    let mut now = filled;
     let mut at = 0;
     while at < input.len() {
         let end = line_end(input, at);
@@ -298,18 +305,18 @@ fn turn(
     table: &mut [u8],
     desk: &mut [u16],
     out: &mut [u8],
-    world: World,
+    filled: Filled,
 ) -> Came {
     let mut input = io::large_buffer();
     let got = libc::read(STDIN_FILENO, &mut input);
     if got <= 0 {
-        return Came { go: false, world };
+        return Came { go: false, filled };
     }
     let n = io::count(got, &input);
-    let now = feed(&input[..n], line, scratch, table, desk, out, world);
+    let now = feed(&input[..n], line, scratch, table, desk, out, filled);
     Came {
         go: true,
-        world: now,
+        filled: now,
     }
 }
 
@@ -320,28 +327,37 @@ fn finish(
     table: &mut [u8],
     desk: &mut [u16],
     out: &mut [u8],
-    world: World,
+    filled: Filled,
 ) {
-    if world.line == 0 {
-        out::flush(out, world.out);
+    if filled.line == 0 {
+        out::flush(out, filled.out);
         return;
     }
-    let last = end_line(line, scratch, table, desk, out, world);
-    out::flush(out, last.out);
+    let waiting = end_line(line, filled.line, scratch, table, desk, out, filled.out);
+    out::flush(out, waiting);
+}
+
+// Before the first line: an empty image with a fresh layout, 64 bytes for codes and 384 for events, a fresh keyboard, and
+// the debouncer that stands at first.
+fn start(desk: &mut [u16]) {
+    desk::set(desk, desk::ROOM, 64);
+    desk::set(desk, desk::SPACE, 384);
+    board::store(Keyboard::new(), desk);
+    bounce::start(desk);
 }
 
 fn run(line: &mut [u8], scratch: &mut [u8], table: &mut [u8], desk: &mut [u16], out: &mut [u8]) {
-    let mut world = World::new();
-    desk::set(desk, desk::ROOM, 64);
+    start(desk);
+    let mut filled = Filled { line: 0, out: 0 };
     let mut turns = u64::MAX;
     let mut go = true;
     while turns > 0 && go {
-        let came = turn(line, scratch, table, desk, out, world);
-        world = came.world;
+        let came = turn(line, scratch, table, desk, out, filled);
+        filled = came.filled;
         go = came.go;
         turns -= 1;
     }
-    finish(line, scratch, table, desk, out, world);
+    finish(line, scratch, table, desk, out, filled);
 }
 
 fn main() {

@@ -22,6 +22,11 @@ pub fn put(out: &mut [u8], waiting: usize, byte: u8) -> usize {
     0
 }
 
+// The answer to a line that cannot be read.
+pub fn unread(out: &mut [u8], waiting: usize) -> usize {
+    put(out, waiting, b'?')
+}
+
 pub fn put_all(out: &mut [u8], waiting: usize, text: &[u8]) -> usize {
     let mut at = waiting;
     let mut i = 0;

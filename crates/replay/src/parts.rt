@@ -1,25 +1,12 @@
-// The lines that set a part of the layout as it stands, legal or not: `room`, `default`, `counts`, `state`, `queue`, `wait`,
-// `idle`. The answer is the line itself. Assumes nothing.
+// The lines that set a part of the layout as it stands, legal or not: `default`, `counts`, `state`, `queue`, `wait`,
+// `idle`. The answer is the line itself; `one` serves `room` and `space` too. Assumes nothing.
 use super::desk;
 use super::out;
 use super::words;
 use super::words::Words;
 use layout::Layout;
 
-// Words of a line that could not be read as numbers are past every number.
-fn are_bytes(a: usize, b: usize) -> bool {
-    a <= 255 && b <= 255
-}
-
-fn are_words(a: usize, b: usize) -> bool {
-    a <= 65535 && b <= 65535
-}
-
-fn unread(out: &mut [u8], waiting: usize) -> usize {
-    out::put(out, waiting, b'?')
-}
-
-// `room N`, `default N`: one word.
+// `default N`; and a line that sets no part of it, but a buffer's length: `room N`, `space N`.
 pub fn one(
     line: &[u8],
     w: Words,
@@ -30,7 +17,7 @@ pub fn one(
 ) -> usize {
     let n = words::number_at(line, w, 1);
     if 65535 < n {
-        return unread(out, waiting);
+        return out::unread(out, waiting);
     }
     desk::set(desk, at, n);
     out::put_all(out, waiting, line)
@@ -40,8 +27,8 @@ pub fn one(
 pub fn counts(line: &[u8], w: Words, desk: &mut [u16], out: &mut [u8], waiting: usize) -> usize {
     let states = words::number_at(line, w, 1);
     let queued = words::number_at(line, w, 2);
-    if !are_words(states, queued) {
-        return unread(out, waiting);
+    if !words::are_numbers(states, queued) {
+        return out::unread(out, waiting);
     }
     desk::set(desk, desk::STATES, states);
     desk::set(desk, desk::QUEUED, queued);
@@ -67,13 +54,13 @@ pub fn state(line: &[u8], w: Words, desk: &mut [u16], out: &mut [u8], waiting: u
     let i = words::byte_at(line, w, 4);
     let j = words::byte_at(line, w, 5);
     if Layout::STATES <= k {
-        return unread(out, waiting);
+        return out::unread(out, waiting);
     }
     if 65535 < value {
-        return unread(out, waiting);
+        return out::unread(out, waiting);
     }
-    if !are_bytes(i, j) {
-        return unread(out, waiting);
+    if !words::are_bytes(i, j) {
+        return out::unread(out, waiting);
     }
     desk::set_four(desk, desk::state_place(k), [words::one(layer), value, i, j]);
     out::put_all(out, waiting, line)
@@ -87,16 +74,16 @@ pub fn queue(line: &[u8], w: Words, desk: &mut [u16], out: &mut [u8], waiting: u
     let j = words::byte_at(line, w, 4);
     let age = words::number_at(line, w, 5);
     if !press && !words::is(words::word(line, w, 2), b"r") {
-        return unread(out, waiting);
+        return out::unread(out, waiting);
     }
     if Layout::QUEUE <= k {
-        return unread(out, waiting);
+        return out::unread(out, waiting);
     }
     if 65535 < age {
-        return unread(out, waiting);
+        return out::unread(out, waiting);
     }
-    if !are_bytes(i, j) {
-        return unread(out, waiting);
+    if !words::are_bytes(i, j) {
+        return out::unread(out, waiting);
     }
     desk::set_four(desk, desk::queue_place(k), [words::one(press), i, j, age]);
     out::put_all(out, waiting, line)
@@ -108,11 +95,11 @@ pub fn wait(line: &[u8], w: Words, desk: &mut [u16], out: &mut [u8], waiting: us
     let j = words::byte_at(line, w, 2);
     let left = words::number_at(line, w, 3);
     let record = words::number_at(line, w, 4);
-    if !are_bytes(i, j) {
-        return unread(out, waiting);
+    if !words::are_bytes(i, j) {
+        return out::unread(out, waiting);
     }
-    if !are_words(left, record) {
-        return unread(out, waiting);
+    if !words::are_numbers(left, record) {
+        return out::unread(out, waiting);
     }
     desk::set(desk, desk::WAITS, 1);
     desk::set_four(desk, desk::WAITS + 1, [i, j, left, record]);

@@ -1,10 +1,10 @@
 // The lines of the table image: `image`, `areas`. Assumes nothing.
 use super::desk;
+use super::held;
 use super::out;
 use super::words;
 use super::words::Bytes;
 use super::words::Words;
-use super::world::World;
 use image::Checked;
 use image::Source;
 use image::Told;
@@ -45,12 +45,12 @@ fn brought(
     table: &mut [u8],
     desk: &mut [u16],
     out: &mut [u8],
-    world: World,
-) -> World {
+    waiting: usize,
+) -> usize {
     keep(image, table);
-    desk::store(Layout::new(), desk);
-    let end = checked(image, out, world.out);
-    world.imaged(image.len()).wrote(end)
+    desk::set(desk, desk::IMAGE, image.len());
+    held::store(Layout::new(), desk);
+    checked(image, out, waiting)
 }
 
 // `image HEX`: read apart from the image that stands, which a line that cannot be read leaves.
@@ -61,12 +61,12 @@ pub fn image(
     table: &mut [u8],
     desk: &mut [u16],
     out: &mut [u8],
-    world: World,
-) -> World {
+    waiting: usize,
+) -> usize {
     let Bytes::Count(n) = words::read_hex(words::word(line, w, 1), scratch) else {
-        return world.wrote(out::put(out, world.out, b'?'));
+        return out::unread(out, waiting);
     };
-    brought(words::first(scratch, n), table, desk, out, world)
+    brought(words::first(scratch, n), table, desk, out, waiting)
 }
 
 // Which area holds the table in use, and how long its stretch is; or the refusal that is told beside an empty stretch.
@@ -98,10 +98,10 @@ fn read_behind(word: &[u8], bytes: &mut [u8], n: usize) -> Bytes {
 // `areas HEX HEX`: the operator's area and the built-in one.
 pub fn areas(line: &[u8], w: Words, scratch: &mut [u8], out: &mut [u8], waiting: usize) -> usize {
     let Bytes::Count(n) = words::read_hex(words::word(line, w, 1), scratch) else {
-        return out::put(out, waiting, b'?');
+        return out::unread(out, waiting);
     };
     let Bytes::Count(m) = read_behind(words::word(line, w, 2), scratch, n) else {
-        return out::put(out, waiting, b'?');
+        return out::unread(out, waiting);
     };
     let built_in = words::first(words::after(scratch, n), m);
     in_use(words::first(scratch, n), built_in, out, waiting)

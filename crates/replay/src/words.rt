@@ -247,6 +247,20 @@ pub fn byte_at(line: &[u8], w: Words, k: usize) -> usize {
     }
 }
 
+// Whether two such words are bytes, and whether they are numbers.
+pub fn are_bytes(a: usize, b: usize) -> bool {
+    a <= 255 && b <= 255
+}
+
+pub fn are_numbers(a: usize, b: usize) -> bool {
+    a <= 65535 && b <= 65535
+}
+
+// The low byte.
+pub fn low(n: usize) -> u8 {
+    (n % 256) as u8
+}
+
 pub fn one(yes: bool) -> usize {
     if yes { 1 } else { 0 }
 }

@@ -14,7 +14,6 @@ ask-spec =
     (tie.spec
     (λ c κs. search needs)
     (λ c. search needs)
-    (λ c. search needs)
     slice-aggregate-told
     (λ c κs. search needs)
     (λ c. search needs)

@@ -1,27 +1,26 @@
--- `replay::desk::states` is safe and ends. Assumes nothing.
+-- `replay::bounce::picture_in` is safe and ends. Assumes nothing.
 use borrow.Author.Needs.{needs}
 use Prim.Native.Nat.{_≤_, _-_}
 use mathlib.Core.Path.{_≡_}
 use lib.ListN.{length}
-use Rattle.replay.proofs.desk.states.Statement.{statement}
-use Rattle.replay.proofs.desk.states.Tie as tie
+use Rattle.replay.proofs.bounce.picture_in.Statement.{statement}
+use Rattle.replay.proofs.bounce.picture_in.Tie as tie
 
 abbrev Inv-loop : tie.InvT-loop
-Inv-loop desk all₀ k₀ all k = (k ≤ 64) × (length all ≡ 64)
+Inv-loop desk at all₀ k₀ all k = (k ≤ 128) × (length all ≡ 128)
 
 abbrev μ-loop : tie.MeasureT-loop
-μ-loop desk all₀ k₀ all k = 64 - k
+μ-loop desk at all₀ k₀ all k = 128 - k
 
-pub states-spec : {M : Type 1} → statement M
-states-spec =
+pub picture-in-spec : {M : Type 1} → statement M
+picture-in-spec =
     tie.close
     (tie.spec
     Inv-loop
     μ-loop
-    (λ c κs. search needs)
     (λ c. search needs)
     (λ c κs. search needs)
-    (λ c. search needs)
+    (λ c κs. search needs)
     (λ c. search needs)
     (λ c. search needs)
     (λ c. search needs)

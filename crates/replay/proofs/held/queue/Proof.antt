@@ -1,0 +1,29 @@
+-- `replay::held::queue` is safe and ends. Assumes nothing.
+use borrow.Author.Needs.{needs}
+use Prim.Native.Nat.{_≤_, _-_}
+use mathlib.Core.Path.{_≡_}
+use lib.ListN.{length}
+use Rattle.replay.proofs.held.queue.Statement.{statement}
+use Rattle.replay.proofs.held.queue.Tie as tie
+
+abbrev Inv-loop : tie.InvT-loop
+Inv-loop desk all₀ k₀ all k = (k ≤ 16) × (length all ≡ 16)
+
+abbrev μ-loop : tie.MeasureT-loop
+μ-loop desk all₀ k₀ all k = 16 - k
+
+pub queue-spec : {M : Type 1} → statement M
+queue-spec =
+    tie.close
+    (tie.spec
+    Inv-loop
+    μ-loop
+    (λ c κs. search needs)
+    (λ c. search needs)
+    (λ c κs. search needs)
+    (λ c. search needs)
+    (λ c. search needs)
+    (λ c. search needs)
+    (λ c. search needs)
+    (λ c. search needs)
+    (λ c. search needs))
