@@ -340,12 +340,19 @@ fn is_settled(image: &[u8], records_at: usize, list_at: usize, n: usize, act: Ac
 }
 
 // The row of record n, each word that it takes read once: a MultipleActions has its entries, and a HoldTap its own last
-// two words, hold and tap.
+// two words, hold and tap. Kinds 0 to 2 come first, since most records named are such.
 fn row_of(image: &[u8], records_at: usize, list_at: usize, n: usize) -> Row
     requires { ⌜ Placed (now image) «records_at» «list_at» × Ready (now image) n ⌝ }
     ensures { λ r. ⌜ Rowed (now (image .entry)) n (r .at) (r .count) × (r .own + weights (named (tree (now (image .entry))) (wordsFrom (now (image .entry)) (r .at) (r .count))) ≡ weight (tree (now (image .entry)) n)) ⌝ }
 {
     let kind = field(image, records_at, n, 0);
+    if kind <= 2 {
+        return Row {
+            own: 1,
+            at: 0,
+            count: 0,
+        };
+    }
     if kind == 4 {
         let first = field(image, records_at, n, 2) as usize;
         return Row {
@@ -361,15 +368,12 @@ fn row_of(image: &[u8], records_at: usize, list_at: usize, n: usize) -> Row
             count: 2,
         };
     }
+    let mut own = 1;
     if kind == 3 {
-        return Row {
-            own: 1 + (field(image, records_at, n, 4) as usize),
-            at: 0,
-            count: 0,
-        };
+        own += field(image, records_at, n, 4) as usize;
     }
     Row {
-        own: 1,
+        own,
         at: 0,
         count: 0,
     }
@@ -410,6 +414,9 @@ fn weigh(image: &[u8], records_at: usize, list_at: usize, n: usize) -> usize
     ensures { λ r. ⌜ r ≡ weight (tree (now (image .entry)) n) ⌝ }
 {
     let row = row_of(image, records_at, list_at, n);
+    if row.count == 0 {
+        return row.own;
+    }
     row.own + weigh_row(image, records_at, list_at, n, row.at, row.count)
 }
 
