@@ -320,6 +320,15 @@ module _ (img : List ℕ) (at n : ℕ) where
       let k : n ≡ 0 = omega arith in
       rw k
 
+-- numbers below k are below n, where k is not above it
+lower-still : (k n : ℕ) (js : List ℕ) → k ≤ n → every (λ j. ltb j k) js ≡ true → every (λ j. ltb j n) js ≡ true
+unfolding every
+lower-still k n [] h e = refl
+lower-still k n (j ∷ js) h e = sym (and-yes (ltb j n) _ (lt-ltb j n (omega (arith, h, ltb-true j k (and-left (ltb j k) _ e)))) (sym (lower-still k n js h (and-right (ltb j k) _ e))))
+
+pub rowed-still : (img : List ℕ) (k n at count : ℕ) → k ≤ n → Rowed img k at count → Rowed img n at count
+rowed-still img k n at count h r = record { inside = r .inside; few = r .few; lower = lower-still k n (wordsFrom img at count) h (r .lower) }
+
 -- a stretch of the list is a row
 pub entries-words : (img : List ℕ) (e n : ℕ) → entries img e n ≡ wordsFrom img (listAt img + 2 * e) n
 unfolding entries entryOf wordsFrom

@@ -18,7 +18,7 @@ use borrow.Fn.PlainCycle.{Measures, is, falls, and}
 use Rattle.image.proofs.rules.weigh_row.Reads as weigh-row
 use Rattle.image.proofs.rules.weigh_row.Kinds as weigh-row-kinds
 use Rattle.image.proofs.rules.+weigh_row.Lts-weigh_row as weigh-row-lts
-use Rattle.image.proofs.rules.row_of.Reads as row-of-reads
+use Rattle.image.proofs.rules.row_past.Reads as row-past-reads
 use Rattle.image.proofs.words.word.Reads as word-reads
 use Rattle.image.proofs.rules.+weigh_row.{statement}
 use Rattle.image.proofs.rules.+weigh_row.Tie.{close}
@@ -40,7 +40,7 @@ weigh-row-μ-loop image records-at list-at n at count sum₀ from₀ left₀ sum
 
 -- what the functions called promise
 abbrev claims : ℕ → weigh-row-lts.Claims
-claims t = (word-reads.Asked, word-reads.Learnt, row-of-reads.Asked, row-of-reads.Learnt, weigh-row-below t, weigh-row.Post)
+claims t = (word-reads.Asked, word-reads.Learnt, row-past-reads.Asked, row-past-reads.Learnt, weigh-row-below t, weigh-row.Post)
 
 weigh-row-loop-holds : (t : ℕ) → weigh-row-lts.Need-loop-holds (claims t) (weigh-row-at t) weigh-row.Post weigh-row-Inv-loop weigh-row-μ-loop
 weigh-row-loop-holds t c = (c .before .pre .1 .2 .inside, omega arith, c .before .pre .1 .2 .lower, omega arith)
@@ -52,24 +52,24 @@ low t c =
     let l = c .before .before .loop in
     omega (arith, ltb-true _ n (row-head (now (c .before .before .before .before .args .image)) (l .from) (l .left) (λ k. ltb k n) (c .before .loop-test .taken) (l .inv .2)), c .word .ensures)
 
-weigh-row-row-of-requires : (t : ℕ) → weigh-row-lts.Need-row-of-requires (claims t) (weigh-row-at t) weigh-row.Post weigh-row-Inv-loop weigh-row-μ-loop
-weigh-row-row-of-requires t c κs = (c .before .before .before .before .pre .1 .0, ready-lower _ _ _ (c .before .before .before .before .pre .1 .1) (low t c))
+weigh-row-row-past-requires : (t : ℕ) → weigh-row-lts.Need-row-past-requires (claims t) (weigh-row-at t) weigh-row.Post weigh-row-Inv-loop weigh-row-μ-loop
+weigh-row-row-past-requires t c κs = (c .before .before .before .before .pre .1 .0, ready-lower _ _ _ (c .before .before .before .before .pre .1 .1) (low t c), c .before .before .before .before .pre .1 .1 .before _ (low t c) .light)
 
 weigh-row-weigh-row-requires : (t : ℕ) → weigh-row-lts.Need-weigh-row-requires (claims t) (weigh-row-at t) weigh-row.Post weigh-row-Inv-loop weigh-row-μ-loop
 weigh-row-weigh-row-requires t c κs =
     let before = c .before .before .before .before .before .before .before in
     let h = low t (c .before .before .before) in
-    (omega (arith, h, before .pre .0), (before .pre .1 .0, ready-lower _ _ _ (before .pre .1 .1) h, c .before .before .row-of .ensures .0))
+    (omega (arith, h, before .pre .0), (before .pre .1 .0, ready-lower _ _ _ (before .pre .1 .1) h, c .before .before .row-past .ensures .0))
 
 weigh-row-add-w : (t : ℕ) → weigh-row-lts.Need-add-w (claims t) (weigh-row-at t) weigh-row.Post weigh-row-Inv-loop weigh-row-μ-loop
 weigh-row-add-w t c =
     let before = c .before .before .before .before .before .before .before .before in
-    omega (arith, before .pre .1 .1 .before _ (low t (c .before .before .before .before)) .light, c .weigh-row .ensures .0, c .before .before .before .row-of .ensures .1)
+    omega (arith, before .pre .1 .1 .before _ (low t (c .before .before .before .before)) .light, c .weigh-row .ensures .0, c .before .before .before .row-past .ensures .1)
 
 -- what is added for it is its weight
 weighs : (t : ℕ) (c : weigh-row-lts.After-row-known (claims t) (weigh-row-at t) weigh-row.Post weigh-row-Inv-loop weigh-row-μ-loop) → c .before .if1 .w ≡ weight (tree (now (c .before .before .before .before .before .before .before .before .args .image)) (c .before .before .before .before .word .result))
 weighs t c =
-    let r = c .before .before .before .row-of in
+    let r = c .before .before .before .row-past in
     ⊎-elim (λ x. omega (arith, x .2, x .1 .ensures .0, r .ensures .1)) (λ x. omega (arith, x .1, r .ensures .1, row-none (now (c .before .before .before .before .before .before .before .before .args .image)) (r .result .at) (r .result .count) (tree (now (c .before .before .before .before .before .before .before .before .args .image))) (omega (arith, x .0 .left)))) (c .before .if1 .came)
 
 weigh-row-add-sum : (t : ℕ) → weigh-row-lts.Need-add-sum (claims t) (weigh-row-at t) weigh-row.Post weigh-row-Inv-loop weigh-row-μ-loop
@@ -96,4 +96,4 @@ weigh-row-returns t c =
     (omega (arith, row-none img (l .from) (l .left) (tree img) (c .loop-test .left)), omega arith)
 
 pub +weigh-row-spec : {M : Type 1} → statement M
-+weigh-row-spec = close μ-weigh-row λ t. weigh-row-lts.spec (claims t) (weigh-row-at t) weigh-row.Post weigh-row-Inv-loop weigh-row-μ-loop (weigh-row-loop-holds t) (λ c κs. search needs) (λ c. search needs) (weigh-row-row-of-requires t) (weigh-row-weigh-row-requires t) (weigh-row-add-w t) (weigh-row-add-sum t) (λ c. search needs) (λ c. search needs) (λ c. search needs) (weigh-row-loop-again t) (weigh-row-returns t)
++weigh-row-spec = close μ-weigh-row λ t. weigh-row-lts.spec (claims t) (weigh-row-at t) weigh-row.Post weigh-row-Inv-loop weigh-row-μ-loop (weigh-row-loop-holds t) (λ c κs. search needs) (λ c. search needs) (weigh-row-row-past-requires t) (weigh-row-weigh-row-requires t) (weigh-row-add-w t) (weigh-row-add-sum t) (λ c. search needs) (λ c. search needs) (λ c. search needs) (weigh-row-loop-again t) (weigh-row-returns t)
