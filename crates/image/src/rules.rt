@@ -1,5 +1,5 @@
 // The check of a table image, a rule a function: document 01, "Refusal numbers" 1 to 9. The header's words are read once
-// and handed on as numbers, and a record's words are read once for its first four rules.
+// and handed on as numbers, and a record's words are read once for its five rules.
 // Assumes nothing.
 use super::record::Action;
 use super::record::action_of;
