@@ -9,22 +9,24 @@ use Prim.Native.Nat.{ℕ, zero, suc, _+_, _-_, _*_, _^_, _<_, _≤_}
 use native.Mathlib.Nat.{mul-le-mul, le-of-lt, eq-or-lt-of-le, le-of-suc-le-suc, not-suc-le-zero}
 use native.Mathlib.Numerals.{sub-one}
 use native.Mathlib.Omega.{arith}
-use borrow.Author.Tests.{leb-true, eqb-true, ltb-true, eqb-false, not-true, not-false, lt-ltb, le-ltb, lt-leb, le-leb}
+use borrow.Author.Tests.{leb-true, eqb-true, ltb-true, eqb-false, not-true, not-false, lt-ltb, le-ltb, lt-leb, le-leb, ne-eqb}
 use lib.ListN.{length, length-append, List·getD-append}
 use lib.Seq.{getD-at}
 use lib.Dec.{eqb, leb, ltb}
 use Rattle.codes.specs.Codes.{legal}
 use Rattle.refusal.specs.declared.Refusal.{Refusal}
 use Rattle.refusal.specs.declared.Refusal.the-variants as refusal
-use Rattle.image.specs.Words.{versionOf, recordsOf, entriesOf, recordsAt, listAt, shapeOf, cellsOf, sizeOf, cellOf, fieldOf, entryOf, entries}
-use Rattle.image.specs.Record.{actionOf, recordOf, actionAt, codesIn, childrenIn, listEnd, hasEntry, lastEntry}
+use Rattle.image.specs.Words.{versionOf, recordsOf, entriesOf, recordsAt, listAt, shapeOf, cellsOf, sizeOf, cellOf, fieldOf, entryOf, entries, wordAt, wordsFrom}
+use Rattle.image.specs.Record.{actionOf, recordOf, actionAt, codesIn, childrenIn, listEnd, hasEntry, lastEntry, stepOf}
 use Rattle.image.specs.Tree.{Action, NoOp, MultipleActions, end, _&_, named, meaning, trees, below, tree, open?, someOpen, shutButLast, settled, weight, weights}
 use Rattle.lists.specs.Lists.{every}
 use Rattle.image.specs.Check.{rule, orElse, firstFault, within, countsGood, offsetsGood, headerGood, headFault, cellFault, form, formGood, recordFault, answer}
-use Rattle.image.specs.Sound.{Framed, Placed, Good, Ready, Meant}
+use Rattle.image.specs.Sound.{Framed, Placed, Good, Ready, Rowed, Meant}
 use Rattle.image.specs.declared.words.Shape.{Shape}
 use Rattle.image.specs.declared.record.Action.{Action as Record}
 use Rattle.image.specs.declared.record.Action.the-variants as code
+use Rattle.image.specs.declared.rules.Step.{Step}
+use Rattle.image.specs.declared.rules.Step.the-variants as step
 use Rattle.image.specs.declared.rules.Checked.the-variants.{Accepted, Refused}
 use Rattle.image.specs.declared.rules.Fault.{Fault}
 use Rattle.image.specs.declared.rules.Fault.the-variants.{Fine, At}
@@ -292,13 +294,48 @@ module _ (l : ℕ → Action) (img : List ℕ) (e n : ℕ) where
   unfolding open?
   some-none h = rw (named-none h)
 
-  pub weights-on : 0 < n → weights (named l (entries img e n)) ≡ weight (l (entryOf img e)) + weights (named l (entries img (e + 1) (n - 1)))
-  unfolding weight
-  weights-on h = rw (named-step h)
+-- one word of a row, and those after it
+module _ (img : List ℕ) (at n : ℕ) where
+  words-step : 0 < n → wordsFrom img at n ≡ wordAt img at ∷ wordsFrom img (at + 2) (n - 1)
+  unfolding wordsFrom
+  words-step h =
+      let k : n ≡ suc (n - 1) = omega arith in
+      ap (wordsFrom img at) k
 
-  pub weights-none : n ≤ 0 → weights (named l (entries img e n)) ≡ 0
-  unfolding weight
-  weights-none h = rw (named-none h)
+  pub row-head : (t : ℕ → Bool) → 0 < n → every t (wordsFrom img at n) ≡ true → t (wordAt img at) ≡ true
+  unfolding every
+  row-head t h g = and-left (t (wordAt img at)) _ (rw (words-step h) at g)
+
+  pub row-tail : (t : ℕ → Bool) → 0 < n → every t (wordsFrom img at n) ≡ true → every t (wordsFrom img (at + 2) (n - 1)) ≡ true
+  unfolding every
+  row-tail t h g = and-right (t (wordAt img at)) _ (rw (words-step h) at g)
+
+  pub row-on : (l : ℕ → Action) → 0 < n → weights (named l (wordsFrom img at n)) ≡ weight (l (wordAt img at)) + weights (named l (wordsFrom img (at + 2) (n - 1)))
+  unfolding weight named
+  row-on l h = rw (words-step h)
+
+  pub row-none : (l : ℕ → Action) → n ≤ 0 → weights (named l (wordsFrom img at n)) ≡ 0
+  unfolding weight named wordsFrom
+  row-none l h =
+      let k : n ≡ 0 = omega arith in
+      rw k
+
+-- numbers below k are below n, where k is not above it
+lower-still : (k n : ℕ) (js : List ℕ) → k ≤ n → every (λ j. ltb j k) js ≡ true → every (λ j. ltb j n) js ≡ true
+unfolding every
+lower-still k n [] h e = refl
+lower-still k n (j ∷ js) h e = sym (and-yes (ltb j n) _ (lt-ltb j n (omega (arith, h, ltb-true j k (and-left (ltb j k) _ e)))) (sym (lower-still k n js h (and-right (ltb j k) _ e))))
+
+pub rowed-still : (img : List ℕ) (k n at count : ℕ) → k ≤ n → Rowed img k at count → Rowed img n at count
+rowed-still img k n at count h r = record { inside = r .inside; few = r .few; lower = lower-still k n (wordsFrom img at count) h (r .lower) }
+
+-- a stretch of the list is a row
+pub entries-words : (img : List ℕ) (e n : ℕ) → entries img e n ≡ wordsFrom img (listAt img + 2 * e) n
+unfolding entries entryOf wordsFrom
+entries-words img e zero = refl
+entries-words img e (suc n) =
+    let s : listAt img + 2 * e + 2 ≡ listAt img + 2 * (e + 1) = omega arith in
+    rw s (ap (λ r. wordAt img (listAt img + 2 * e) ∷ r) (entries-words img (e + 1) n))
 
 -- the open rule over a stretch of the list: it goes on, it stops, it ends
 module _ (l : ℕ → Action) (img : List ℕ) where
@@ -420,13 +457,45 @@ by-kind P k a b c p0 p1 p2 p3 p4 p5 p6 p7 =
 pub tree-words : (img : List ℕ) (n : ℕ) → Ready img n → tree img n ≡ meaning img (tree img) n (recordOf img n)
 tree-words img n y = meant img n y (sym (action-inside img n (y .inside))) refl .is
 
--- kinds 0 to 2 weigh 1
-pub weight-one : (img : List ℕ) (n : ℕ) → Ready img n → fieldOf img n 0 ≤ 2 → weight (tree img n) ≡ 1
+-- a HoldTap's hold and tap are its last two words
+pair-words : (img : List ℕ) (r l n : ℕ) → Placed img r l → wordsFrom img (r + 8 * n + 4) 2 ≡ fieldOf img n 4 ∷ fieldOf img n 6 ∷ []
+unfolding wordsFrom fieldOf
+pair-words img r l n p =
+    let s : recordsAt img + 8 * n + 4 + 2 ≡ recordsAt img + 8 * n + 6 = omega arith in
+    rw (p .first, s)
+
+-- the row of a record, and that the record weighs what its row does and its own part: a MultipleActions, a HoldTap, and a
+-- record that names none
+pub many-row : (img : List ℕ) (r l n first count : ℕ) → Placed img r l → Ready img n → count < 65536 → actionAt img n ≡ code.MultipleActions first count → Rowed img n (l + 2 * first) count × (1 + weights (named (tree img) (wordsFrom img (l + 2 * first) count)) ≡ weight (tree img n))
+unfolding listEnd childrenIn meaning weight
+many-row img r l n first count p y s e =
+    let m = meant img n y refl e in
+    let w : entries img first count ≡ wordsFrom img (l + 2 * first) count = entries-words img first count ∙ ap (λ k. wordsFrom img (k + 2 * first) count) (sym (p .second)) in
+    (record { inside = omega (arith, m .listed, p .second, p .framed .whole); few = s; lower = rw (← w) (m .lower) }, rw (← w) (sym (ap weight (m .is))))
+
+pub pair-row : (img : List ℕ) (r l n : ℕ) → Placed img r l → Ready img n → fieldOf img n 0 ≡ 7 → Rowed img n (r + 8 * n + 4) 2 × (1 + weights (named (tree img) (wordsFrom img (r + 8 * n + 4) 2)) ≡ weight (tree img n))
+unfolding actionOf childrenIn meaning weight named
+pair-row img r l n p y e =
+    let m : Meant img n (code.HoldTap (fieldOf img n 2) (fieldOf img n 4) (fieldOf img n 6)) = meant img n y (sym (action-inside img n (y .inside))) (rw e) in
+    let w = pair-words img r l n p in
+    (record { inside = omega (arith, y .inside, p .first, p .framed .whole, p .framed .list-at); few = omega arith; lower = rw w (m .lower) }, rw w (omega (arith, ap weight (m .is))))
+
+pub alone-row : (img : List ℕ) (n w : ℕ) → weight (tree img n) ≡ w → Rowed img n 0 0 × (w + weights (named (tree img) (wordsFrom img 0 0)) ≡ weight (tree img n))
+unfolding every wordsFrom
+alone-row img n w e = (record { inside = omega arith; few = omega arith; lower = refl }, omega (arith, e, row-none img 0 0 (tree img) (omega arith)))
+
+pub weight-codes : (img : List ℕ) (n : ℕ) → Ready img n → fieldOf img n 0 ≡ 3 → weight (tree img n) ≡ 1 + fieldOf img n 4
+unfolding actionOf meaning weight
+weight-codes img n y e =
+    let m : Meant img n (code.MultipleKeyCodes (fieldOf img n 2) (fieldOf img n 4)) = meant img n y (sym (action-inside img n (y .inside))) (rw e) in
+    ap weight (m .is) ∙ ap (λ k. 1 + k) (length-entries _ _ _)
+
+pub weight-one : (img : List ℕ) (n : ℕ) → Ready img n → (fieldOf img n 0 ≡ 3 → ⊥) → (fieldOf img n 0 ≡ 4 → ⊥) → (fieldOf img n 0 ≡ 7 → ⊥) → weight (tree img n) ≡ 1
 unfolding meaning weight
-weight-one img n y h =
+weight-one img n y h3 h4 h7 =
     rw (tree-words img n y)
     (by-kind (λ x. weight (meaning img (tree img) n x) ≡ 1) (fieldOf img n 0) (fieldOf img n 2) (fieldOf img n 4) (fieldOf img n 6)
-    (λ _. refl) (λ _. refl) (λ _. refl) (λ e. absurd (omega arith)) (λ e. absurd (omega arith)) (λ _. refl) (λ _. refl) (λ e. absurd (omega arith)))
+    (λ _. refl) (λ _. refl) (λ _. refl) (λ e. absurd (h3 e)) (λ e. absurd (h4 e)) (λ _. refl) (λ _. refl) (λ e. absurd (h7 e)))
 
 -- a MultipleActions with an entry: its words, and that its last entry is lower and decides whether it is open
 pub many-words : (img : List ℕ) (n : ℕ) → Ready img n → hasEntry img n ≡ true → (0 < fieldOf img n 4) × Meant img n (code.MultipleActions (fieldOf img n 2) (fieldOf img n 4))
@@ -463,6 +532,41 @@ open-end img n y h =
     (λ e. e) (λ e. rw e) (λ e. rw e) (λ e. rw e)
     (λ e. rw e (sym (some-none (tree img) img (fieldOf img n 2) (fieldOf img n 4) (no-entry img n e h))))
     (λ e. rw e) (λ e. rw e) (λ e. rw e))
+
+-- what a step of the search for a HoldTap says, and when it is which
+step-case : (t : Bool) (x e : ℕ) (b : Bool) → step.Entry e ≡ cond t (step.Entry x) (step.End b) → (t ≡ true) × (e ≡ x)
+step-case true x e b q = (refl, cc)
+step-case false x e b q = (cc, cc)
+
+end-case : (t : Bool) (x : ℕ) (o b : Bool) → step.End o ≡ cond t (step.Entry x) (step.End b) → (t ≡ false) × (o ≡ b)
+end-case true x o b q = (cc, cc)
+end-case false x o b q = (refl, cc)
+
+module _ (img : List ℕ) (n : ℕ) {r : Step} where
+  pub step-entry : (e : ℕ) → r ≡ stepOf img n → r ≡ step.Entry e → (hasEntry img n ≡ true) × (e ≡ lastEntry img n)
+  unfolding stepOf
+  step-entry e q g = step-case (hasEntry img n) (lastEntry img n) e (eqb (fieldOf img n 0) 7) (sym g ∙ q)
+
+  pub step-end : (o : Bool) → r ≡ stepOf img n → r ≡ step.End o → (hasEntry img n ≡ false) × (o ≡ eqb (fieldOf img n 0) 7)
+  unfolding stepOf
+  step-end o q g = end-case (hasEntry img n) (lastEntry img n) o (eqb (fieldOf img n 0) 7) (sym g ∙ q)
+
+module _ (img : List ℕ) (n : ℕ) where
+  pub step-other : (fieldOf img n 0 ≡ 4 → ⊥) → step.End (eqb (fieldOf img n 0) 7) ≡ stepOf img n
+  unfolding stepOf hasEntry
+  step-other h = rw (ne-eqb (fieldOf img n 0) 4 h)
+
+  pub step-none : fieldOf img n 0 ≡ 4 → fieldOf img n 4 ≡ 0 → step.End false ≡ stepOf img n
+  unfolding stepOf hasEntry
+  step-none e z = rw (e, z)
+
+  pub has-entry : fieldOf img n 0 ≡ 4 → (fieldOf img n 4 ≡ 0 → ⊥) → hasEntry img n ≡ true
+  unfolding hasEntry
+  has-entry e h = rw (e, ne-eqb (fieldOf img n 4) 0 h)
+
+  pub step-on : hasEntry img n ≡ true → step.Entry (lastEntry img n) ≡ stepOf img n
+  unfolding stepOf
+  step-on h = rw h
 
 -- the entries of a record whose form is good are in the list
 form-lists : (e k a b c : ℕ) → form e k a b c ≡ true → ((k ≡ 3) ⊎ (k ≡ 4)) → a + b ≤ e

@@ -7,7 +7,7 @@ use Prim.Native.Nat.{ℕ, _+_, _*_, _<_, _≤_}
 use lib.ListN.{length}
 use lib.Dec.{ltb}
 use Rattle.codes.specs.Codes.{legal}
-use Rattle.image.specs.Words.{layersOf, rowsOf, columnsOf, recordsOf, entriesOf, recordsAt, listAt, cellsOf, sizeOf, cellOf}
+use Rattle.image.specs.Words.{layersOf, rowsOf, columnsOf, recordsOf, entriesOf, recordsAt, listAt, cellsOf, sizeOf, cellOf, wordsFrom}
 use Rattle.image.specs.Record.{actionAt, codesIn, childrenIn, listEnd}
 use Rattle.image.specs.Tree.{weight, tree, settled, meaning}
 use Rattle.image.specs.declared.record.Action.{Action}
@@ -48,6 +48,12 @@ pub record Ready (img : List ℕ) (n : ℕ) : Type 0 where
   pub codes : every legal (codesIn img (actionAt img n)) ≡ true
   pub lower : every (λ k. ltb k n) (childrenIn img (actionAt img n)) ≡ true
   pub before : (k : ℕ) → k < n → Good img k
+
+-- so many words in a row from a byte offset on, inside the image, number records below n
+pub record Rowed (img : List ℕ) (n at count : ℕ) : Type 0 where
+  pub inside : at + 2 * count ≤ length img
+  pub few : count < 65536
+  pub lower : every (λ k. ltb k n) (wordsFrom img at count) ≡ true
 
 pub record Sound (img : List ℕ) : Type 0 where
   pub framed : Framed img

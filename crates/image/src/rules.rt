@@ -1,5 +1,5 @@
 // The check of a table image, a rule a function: document 01, "Refusal numbers" 1 to 9. The header's words are read once
-// and handed on as numbers, and a record's words are read once for its first four rules.
+// and handed on as numbers, and a record's words are read once for its five rules.
 // Assumes nothing.
 use super::record::Action;
 use super::record::action_of;
@@ -16,12 +16,12 @@ ghost use mathlib.Core.Bool.{true, _&&_};
 ghost use lib.ListN.{length};
 ghost use lib.Dec.{ltb};
 ghost use Rattle.codes.specs.Codes.{legal};
-ghost use Rattle.image.specs.Words.{shapeOf, cellsOf, recordsOf, entriesOf, recordsAt, listAt, entries};
-ghost use Rattle.image.specs.Record.{actionAt, codesIn, childrenIn, listEnd, hasEntry, lastEntry};
-ghost use Rattle.image.specs.Tree.{tree, weight, open?, settled, named, shutButLast};
+ghost use Rattle.image.specs.Words.{shapeOf, cellsOf, recordsOf, entriesOf, recordsAt, entries, wordsFrom};
+ghost use Rattle.image.specs.Record.{actionAt, codesIn, childrenIn, listEnd, stepOf};
+ghost use Rattle.image.specs.Tree.{tree, weight, weights, open?, settled, named, shutButLast};
 ghost use Rattle.lists.specs.Lists.{every};
 ghost use Rattle.image.specs.Check.{within, countsGood, offsetsGood, headerGood, headFault, cellFault, form, recordFault, firstFault, bodyFault, faultOf, checkOf, toldOf};
-ghost use Rattle.image.specs.Sound.{Framed, Placed, Good, Ready};
+ghost use Rattle.image.specs.Sound.{Framed, Placed, Good, Ready, Rowed};
 
 // The header's numbers of an accepted image, or the first fault and its place.
 pub enum Checked {
@@ -51,6 +51,19 @@ impl Checked {
             },
         }
     }
+}
+
+// Where the search for a HoldTap goes from a record: on to its last entry, or it ends, at a HoldTap or at none.
+pub(crate) enum Step {
+    Entry(usize),
+    End(bool),
+}
+
+// What a record weighs by itself, and the words in a row that number the records it names: so many, from a byte offset.
+pub(crate) struct Row {
+    pub own: usize,
+    pub at: usize,
+    pub count: usize,
 }
 
 // No fault, or the first one and its place.
@@ -237,34 +250,21 @@ fn children_lower(image: &[u8], list_at: usize, n: usize, act: Action) -> bool
     }
 }
 
-// The action of record n.
-fn action_in(image: &[u8], records_at: usize, n: usize) -> Action
-    requires { ⌜ (n < recordsOf (now image)) × Placed (now image) «records_at» (listAt (now image)) ⌝ }
-    ensures { λ r. ⌜ r ≡ actionAt (now (image .entry)) n ⌝ }
+// Where the search for a HoldTap goes from record n, each word that it takes read once.
+fn step_from(image: &[u8], records_at: usize, list_at: usize, n: usize) -> Step
+    requires { ⌜ Placed (now image) «records_at» «list_at» × Ready (now image) n ⌝ }
+    ensures { λ r. ⌜ r ≡ stepOf (now (image .entry)) n ⌝ }
 {
     let kind = field(image, records_at, n, 0);
-    let a = field(image, records_at, n, 2);
-    let b = field(image, records_at, n, 4);
-    let c = field(image, records_at, n, 6);
-    action_of(kind, a, b, c)
-}
-
-// A MultipleActions with an entry.
-fn has_entry(image: &[u8], records_at: usize, n: usize) -> bool
-    requires { ⌜ (n < recordsOf (now image)) × Placed (now image) «records_at» (listAt (now image)) ⌝ }
-    ensures { λ r. ⌜ r ≡ hasEntry (now (image .entry)) n ⌝ }
-{
-    field(image, records_at, n, 0) == 4 && field(image, records_at, n, 4) != 0
-}
-
-// The last entry of a MultipleActions.
-fn last_entry(image: &[u8], records_at: usize, list_at: usize, n: usize) -> usize
-    requires { ⌜ Placed (now image) «records_at» «list_at» × Ready (now image) n × (hasEntry (now image) n ≡ true) ⌝ }
-    ensures { λ r. ⌜ r ≡ lastEntry (now (image .entry)) n ⌝ }
-{
-    let first = field(image, records_at, n, 2) as usize;
+    if kind != 4 {
+        return Step::End(kind == 7);
+    }
     let count = field(image, records_at, n, 4) as usize;
-    entry(image, list_at, first + count - 1) as usize
+    if count == 0 {
+        return Step::End(false);
+    }
+    let first = field(image, records_at, n, 2) as usize;
+    Step::Entry(entry(image, list_at, first + count - 1) as usize)
 }
 
 // Whether record n is open, where it and every lower record keep the open rule: then only a last entry can be, and the
@@ -274,10 +274,16 @@ fn is_open(image: &[u8], records_at: usize, list_at: usize, n: usize) -> bool
     ensures { λ r. ⌜ r ≡ open? (tree (now (image .entry)) n) ⌝ }
 {
     let mut at = n;
-    while has_entry(image, records_at, at) {
-        at = last_entry(image, records_at, list_at, at);
+    loop {
+        match step_from(image, records_at, list_at, at) {
+            Step::Entry(e) => {
+                at = e;
+            }
+            Step::End(open) => {
+                return open;
+            }
+        }
     }
-    field(image, records_at, at, 0) == 7
 }
 
 // Of so many entries from `first` on, none is open but perhaps the last.
@@ -333,34 +339,122 @@ fn is_settled(image: &[u8], records_at: usize, list_at: usize, n: usize, act: Ac
     }
 }
 
-// The weight of record n: recursion over the records that it names, whose numbers are lower. An entry of kinds 0 to 2
-// weighs 1, which spares most calls.
-fn weigh(image: &[u8], records_at: usize, list_at: usize, n: usize) -> usize
+// The row of record n, each word that it takes read once: a MultipleActions has its entries, and a HoldTap its own last
+// two words, hold and tap. Kinds 0 to 2 come first, since most records named are such.
+fn row_of(image: &[u8], records_at: usize, list_at: usize, n: usize) -> Row
     requires { ⌜ Placed (now image) «records_at» «list_at» × Ready (now image) n ⌝ }
+    ensures { λ r. ⌜ Rowed (now (image .entry)) n (r .at) (r .count) × (r .own + weights (named (tree (now (image .entry))) (wordsFrom (now (image .entry)) (r .at) (r .count))) ≡ weight (tree (now (image .entry)) n)) ⌝ }
+{
+    let kind = field(image, records_at, n, 0);
+    if kind <= 2 {
+        return Row {
+            own: 1,
+            at: 0,
+            count: 0,
+        };
+    }
+    if kind == 4 {
+        let first = field(image, records_at, n, 2) as usize;
+        return Row {
+            own: 1,
+            at: list_at + 2 * first,
+            count: field(image, records_at, n, 4) as usize,
+        };
+    }
+    if kind == 7 {
+        return Row {
+            own: 1,
+            at: records_at + 8 * n + 4,
+            count: 2,
+        };
+    }
+    let mut own = 1;
+    if kind == 3 {
+        own += field(image, records_at, n, 4) as usize;
+    }
+    Row {
+        own,
+        at: 0,
+        count: 0,
+    }
+}
+
+// The row of record n, which weighs at most 64, past each record that names one other: it weighs one more than that one,
+// and needs no call. The numbers fall.
+fn row_past(image: &[u8], records_at: usize, list_at: usize, n: usize) -> Row
+    requires { ⌜ Placed (now image) «records_at» «list_at» × Ready (now image) n × (weight (tree (now image) n) ≤ 64) ⌝ }
+    ensures { λ r. ⌜ Rowed (now (image .entry)) n (r .at) (r .count) × (r .own + weights (named (tree (now (image .entry))) (wordsFrom (now (image .entry)) (r .at) (r .count))) ≡ weight (tree (now (image .entry)) n)) ⌝ }
+{
+    let mut k = n;
+    let mut row = row_of(image, records_at, list_at, n);
+    while row.count == 1 {
+        k = word(image, row.at) as usize;
+        let next = row_of(image, records_at, list_at, k);
+        row = Row {
+            own: row.own + next.own,
+            at: next.at,
+            count: next.count,
+        };
+    }
+    row
+}
+
+// The weights of the records that a row names, all below n: recursion over them. A record that names none is no call.
+fn weigh_row(
+    image: &[u8],
+    records_at: usize,
+    list_at: usize,
+    n: usize,
+    at: usize,
+    count: usize,
+) -> usize
+    requires { ⌜ Placed (now image) «records_at» «list_at» × Ready (now image) n × Rowed (now image) n at count ⌝ }
+    ensures { λ r. ⌜ (r ≡ weights (named (tree (now (image .entry))) (wordsFrom (now (image .entry)) at count))) × (r ≤ 64 * count) ⌝ }
+{
+    let mut sum = 0;
+    let mut from = at;
+    let mut left = count;
+    while 0 < left {
+        let k = word(image, from) as usize;
+        let row = row_past(image, records_at, list_at, k);
+        let mut w = row.own;
+        if row.count != 0 {
+            w += weigh_row(image, records_at, list_at, k, row.at, row.count);
+        }
+        sum += w;
+        from += 2;
+        left -= 1;
+    }
+    sum
+}
+
+// The weight of record n, which is at most 64.
+fn weigh(image: &[u8], records_at: usize, list_at: usize, n: usize) -> usize
+    requires { ⌜ Placed (now image) «records_at» «list_at» × Ready (now image) n × (weight (tree (now image) n) ≤ 64) ⌝ }
     ensures { λ r. ⌜ r ≡ weight (tree (now (image .entry)) n) ⌝ }
 {
-    match action_in(image, records_at, n) {
+    let row = row_past(image, records_at, list_at, n);
+    if row.count == 0 {
+        return row.own;
+    }
+    row.own + weigh_row(image, records_at, list_at, n, row.at, row.count)
+}
+
+// The weight of record n, whose words are read already.
+fn weight_of(image: &[u8], records_at: usize, list_at: usize, n: usize, act: Action) -> usize
+    requires { ⌜ Placed (now image) «records_at» «list_at» × (act ≡ actionAt (now image) n) × Ready (now image) n ⌝ }
+    ensures { λ r. ⌜ r ≡ weight (tree (now (image .entry)) n) ⌝ }
+{
+    match act {
         Action::MultipleKeyCodes(_, count) => 1 + (count as usize),
+        Action::MultipleActions(first, count) => {
+            let at = list_at + 2 * (first as usize);
+            1 + weigh_row(image, records_at, list_at, n, at, count as usize)
+        }
         Action::HoldTap(_, hold, tap) => {
             1
                 + (weigh(image, records_at, list_at, hold as usize)
                     + weigh(image, records_at, list_at, tap as usize))
-        }
-        Action::MultipleActions(first, count) => {
-            let mut sum = 1;
-            let mut at = first as usize;
-            let mut left = count as usize;
-            while 0 < left {
-                let e = entry(image, list_at, at) as usize;
-                let mut w = 1;
-                if 2 < field(image, records_at, e, 0) {
-                    w = weigh(image, records_at, list_at, e);
-                }
-                sum += w;
-                at += 1;
-                left -= 1;
-            }
-            sum
         }
         Action::NoOp => 1,
         Action::Trans => 1,
@@ -370,7 +464,7 @@ fn weigh(image: &[u8], records_at: usize, list_at: usize, n: usize) -> usize
     }
 }
 
-// The first fault of record n, where every lower record is good. Kinds 0 to 2 weigh 1.
+// The first fault of record n, where every lower record is good.
 fn record_fault(image: &[u8], records_at: usize, list_at: usize, listed: usize, n: usize) -> Fault
     requires { ⌜ Placed (now image) «records_at» «list_at» × (listed ≡ entriesOf (now image)) × (n < recordsOf (now image)) × ((k : ℕ) → k < n → Good (now image) k) ⌝ }
     ensures { λ r. ⌜ r ≡ recordFault (now (image .entry)) n ⌝ }
@@ -392,10 +486,7 @@ fn record_fault(image: &[u8], records_at: usize, list_at: usize, listed: usize, 
     if !is_settled(image, records_at, list_at, n, act) {
         return Fault::At(Refusal::Nested, n);
     }
-    if kind <= 2 {
-        return Fault::Fine;
-    }
-    if 64 < weigh(image, records_at, list_at, n) {
+    if 64 < weight_of(image, records_at, list_at, n, act) {
         return Fault::At(Refusal::Weight, n);
     }
     Fault::Fine

@@ -1,7 +1,7 @@
 -- `image::rules::record_fault` meets its contract: rule by rule, each by what its function ensures. Assumes nothing.
 use Prim.Native.Nat.{_≤_}
 use Rattle.codes.specs.Codes.{legal}
-use Rattle.image.proofs.Laws.{action-inside, all-kept, child-no, code-no, list-placed, listed-inside, nested-no, record-no, weight-no, weight-one}
+use Rattle.image.proofs.Laws.{action-inside, all-kept, child-no, code-no, list-placed, listed-inside, nested-no, record-no, weight-no}
 use Rattle.lists.specs.Lists.{every}
 use Rattle.image.specs.Check.{form, formGood}
 use Rattle.image.specs.Record.{actionAt, childrenIn, codesIn, listEnd}
@@ -72,19 +72,14 @@ is-settled-requires c κs = (c .before .before .before .before .before .before .
 returns-4 : tie.Need-returns-4
 returns-4 c = nested-no _ _ (ready (c .before .before)) (sym (c .before .is-settled .ensures) ∙ not-true _ (c .if4 .taken))
 
-returns-5 : tie.Need-returns-5
-returns-5 c =
-    let y = ready (c .before .before .before) in
-    all-kept _ _ y (settles (c .before)) (omega (arith, weight-one _ _ y (omega (arith, c .if5 .taken, c .before .before .before .before .before .before .before .before .before .before .before .before .before .field .ensures))))
+weight-of-requires : tie.Need-weight-of-requires
+weight-of-requires c κs = (c .before .before .before .before .before .before .before .before .before .before .before .before .before .before .pre .0, read (c .before .before .before .before .before .before), ready (c .before .before))
 
-weigh-requires : tie.Need-weigh-requires
-weigh-requires c κs = (c .before .before .before .before .before .before .before .before .before .before .before .before .before .before .before .pre .0, ready (c .before .before .before))
+returns-5 : tie.Need-returns-5
+returns-5 c = weight-no _ _ (ready (c .before .before .before .before)) (settles (c .before .before)) (omega (arith, c .before .weight-of .ensures))
 
 returns-6 : tie.Need-returns-6
-returns-6 c = weight-no _ _ (ready (c .before .before .before .before .before)) (settles (c .before .before .before)) (omega (arith, c .before .weigh .ensures))
-
-returns-7 : tie.Need-returns-7
-returns-7 c = all-kept _ _ (ready (c .before .before .before .before .before)) (settles (c .before .before .before)) (omega (arith, c .before .weigh .ensures))
+returns-6 c = all-kept _ _ (ready (c .before .before .before .before)) (settles (c .before .before)) (omega (arith, c .before .weight-of .ensures))
 
 pub record-fault-spec : {M : Type 1} → statement M
-record-fault-spec = tie.close (tie.spec (λ c κs. search needs) (λ c κs. search needs) (λ c κs. search needs) (λ c κs. search needs) (λ c κs. search needs) returns (λ c κs. search needs) codes-good-requires returns-2 children-lower-requires returns-3 is-settled-requires returns-4 returns-5 weigh-requires returns-6 returns-7)
+record-fault-spec = tie.close (tie.spec (λ c κs. search needs) (λ c κs. search needs) (λ c κs. search needs) (λ c κs. search needs) (λ c κs. search needs) returns (λ c κs. search needs) codes-good-requires returns-2 children-lower-requires returns-3 is-settled-requires returns-4 weight-of-requires returns-5 returns-6)
