@@ -5,5 +5,7 @@ pub mod Calls
 pub mod Drain
 pub mod Limits
 pub mod Answers
+pub mod OnLists
+pub mod Replies
 pub mod Demand3
 pub mod Reached

@@ -18,7 +18,7 @@ use Rattle.layout.specs.Steps.{act, intoHold, intoTap, releases, released, over
 use Rattle.layout.specs.declared.queue.Stacked.{Stacked}
 use Rattle.demands.specs.Runs.{Call, Tick, Enter, call}
 use Rattle.demands.specs.Limits.{Limits}
-use Rattle.demands.specs.Demand3.{Legal}
+use Rattle.demands.specs.OnLists.{Legal}
 use Rattle.demands.proofs.Cost.{share}
 use Rattle.demands.proofs.Marks.{made, made-append, acted-append}
 use Rattle.demands.proofs.Actions.{waits}
