@@ -9,3 +9,4 @@ pub mod OnLists
 pub mod Replies
 pub mod Demand3
 pub mod Reached
+pub mod Bench

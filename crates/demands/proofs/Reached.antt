@@ -28,7 +28,8 @@ use Rattle.demands.specs.Runs.{Call, call, run, ticks, arrived}
 use Rattle.demands.specs.Words.{bound, downAfter, AllReleased}
 use Rattle.demands.specs.OnLists.{drain, queuedAfter, Quiet}
 use Rattle.demands.specs.Demand3.{boundOf, Demand3, OfImages}
-use Rattle.demands.specs.Reached.{zOf, lent, seventeen, tapped, Asked, Reached, Met}
+use Rattle.demands.specs.Z.{zOf, lent}
+use Rattle.demands.specs.Reached.{seventeen, tapped, Asked, Reached, Met}
 use Rattle.demands.proofs.Replies.{Tied, tied-fresh}
 use Rattle.demands.proofs.Demand3.{at-rest, of-images}
 

@@ -5,4 +5,6 @@ pub mod OnLists
 pub mod Limits
 pub mod Public
 pub mod Demand3
+pub mod Z
 pub mod Reached
+pub mod Bench

@@ -14,21 +14,8 @@ use Rattle.layout.specs.Model.{Acted, Begun, Decided}
 use Rattle.layout.specs.declared.run.Way.the-variants.{Tap}
 use Rattle.demands.specs.Runs.{Call, Enter, arrived}
 use Rattle.demands.specs.Words.{AllReleased}
+use Rattle.demands.specs.Z.{zOf, lent}
 use Rattle.demands.specs.Demand3.{left, did, boundOf, AtRest}
-
--- Z, but for its timeout, one byte: document 01's is 3
-unfoldable pub zOf : ℕ → List ℕ
-zOf timeout =
-    0x01 ∷ 0x00 ∷ 0x01 ∷ 0x00 ∷ 0x01 ∷ 0x00 ∷ 0x02 ∷ 0x00 ∷ 0x04 ∷ 0x00 ∷ 0x00 ∷ 0x00 ∷ 0x14 ∷ 0x00 ∷ 0x34 ∷ 0x00
-    ∷ 0x03 ∷ 0x00 ∷ 0x01 ∷ 0x00
-    ∷ 0x00 ∷ 0x00 ∷ 0x00 ∷ 0x00 ∷ 0x00 ∷ 0x00 ∷ 0x00 ∷ 0x00
-    ∷ 0x02 ∷ 0x00 ∷ 0x2C ∷ 0x00 ∷ 0x00 ∷ 0x00 ∷ 0x00 ∷ 0x00
-    ∷ 0x02 ∷ 0x00 ∷ 0xE0 ∷ 0x00 ∷ 0x00 ∷ 0x00 ∷ 0x00 ∷ 0x00
-    ∷ 0x07 ∷ 0x00 ∷ timeout ∷ 0x00 ∷ 0x02 ∷ 0x00 ∷ 0x01 ∷ 0x00 ∷ []
-
--- a code buffer, as small as a call takes
-unfoldable pub lent : List ℕ
-lent = replicate 64 0
 
 -- seventeen presses of (0,0)
 unfoldable pub seventeen : List Call
