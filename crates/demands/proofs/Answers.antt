@@ -20,7 +20,7 @@ use Rattle.demands.proofs.Marks.{acted-append, decisions-append}
 use Rattle.demands.proofs.Calls.{Fit, goes-call}
 use Rattle.demands.proofs.Limits.{limits}
 
-most-two : (k : Call) → most k ≤ 2
+pub most-two : (k : Call) → most k ≤ 2
 most-two Tick = omega arith
 most-two (Enter e) = omega arith
 

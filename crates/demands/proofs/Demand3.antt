@@ -17,19 +17,24 @@ use Rattle.image.specs.Table.{tableOf, timesOf}
 use Rattle.image.specs.declared.words.Shape.{Shape}
 use Rattle.image.specs.declared.rules.Checked.{Checked}
 use Rattle.image.specs.declared.rules.Checked.the-variants.{Accepted, Refused}
+use Rattle.image.proofs.Accepted.{accepted}
 use Rattle.layout.specs.Model.{Model, Done, fresh}
 use Rattle.layout.specs.Steps.{codes}
 use Rattle.layout.specs.Packed.{waitingIn}
 use Rattle.layout.specs.Calls.{pack, stateGood, rule, judgedBy, judgedOf, answerOf}
 use Rattle.layout.specs.declared.layout.Layout.{Layout}
 use Rattle.layout.specs.declared.layout.Judged.{Judged}
-use Rattle.demands.specs.Runs.{Call, ticks, run}
+use Rattle.layout.proofs.Acts.{noted-acted}
+use Rattle.layout.proofs.Decisions.{noted-all}
+use Rattle.demands.specs.Runs.{Call, call, ticks, run}
 use Rattle.demands.specs.Words.{bound}
 use Rattle.demands.specs.Public.{step, reply, isDone, NoneRefused}
 use Rattle.demands.specs.OnLists.{Quiet, OnLists, OfImages as OnListsOfImages}
+use Rattle.demands.specs.Limits.{Limits, Names, OfImages as LimitsOfImages}
 use Rattle.demands.specs.Demand3.{boundOf, AtRest, Demand3, OfImages, Given, Heard}
-use Rattle.demands.proofs.OnLists.{of-images as lists-of-images}
-use Rattle.demands.proofs.Replies.{Tied, tied-fresh}
+use Rattle.demands.proofs.Answers.{most-two}
+use Rattle.demands.proofs.OnLists.{of-images as lists-of-images, limits-next}
+use Rattle.demands.proofs.Replies.{handed, step-is, reply-is, Tied, lawful-fresh, tied-fresh}
 
 pub at-rest : (l : Model) → Quiet l → AtRest (pack l)
 at-rest l q = record { empty = ap length (q .empty); idle = ap waitingIn (q .idle) }
@@ -63,6 +68,18 @@ module _ (img : List ℕ) (shape : Shape) (bytes : (i : ℕ) → getD img i 0 < 
 pub of-images : OfImages
 unfolding OfImages
 of-images img shape bytes e buffer room calls = demand3 img shape bytes e buffer room calls
+
+-- the limits of an answer, and that it names what was done
+names : (k : Call) (done : Done) (buffer : List ℕ) → Limits k (done .marks) → Names (done .marks) (handed done buffer)
+names k done buffer x = record { acted = noted-acted (done .marks) (x .acts); decided = noted-all (done .marks) (omega (arith, x .decides, most-two k)) }
+
+pub limits-of-images : LimitsOfImages
+unfolding LimitsOfImages
+limits-of-images img shape bytes e buffer room calls k =
+    let l = run (tableOf img) calls fresh .layout in
+    let x = limits-next img bytes (accepted img shape e .1) calls k in
+    let w = lawful-fresh img shape e calls in
+    rw (tied-fresh img shape e calls buffer room .layout, step-is img shape e k l w, reply-is img shape e k l buffer w room) (x, names k (call (tableOf img) k l) buffer x)
 
 -- a rule that is kept
 heard-rule : (test : Bool) (r : Refusal) (rest : Judged) (done : Done) → isDone (answerOf (rule test r rest) done) ≡ true → (test ≡ true) × (isDone (answerOf rest done) ≡ true)

@@ -16,7 +16,7 @@ use Rattle.layout.specs.Packed.{actedOn}
 use Rattle.demands.specs.Runs.{Call, call, run, ticks, arrived}
 use Rattle.demands.specs.Words.{bound, AllReleased}
 use Rattle.demands.specs.OnLists.{drain, queuedAfter, Quiet, OnLists, Legal, OfTables, OfImages}
-use Rattle.demands.specs.Limits.{OfImages as LimitsOfImages}
+use Rattle.demands.specs.Limits.{Limits}
 use Rattle.demands.proofs.Marks.{down-nil, arrived-append, arrived-ticks, down-none}
 use Rattle.demands.proofs.Actions.{Good}
 use Rattle.demands.proofs.Calls.{Fit, Goes, goes-run}
@@ -81,9 +81,9 @@ pub of-images : OfImages
 unfolding OfImages OfTables
 of-images img shape bytes e calls = of-tables (tableOf img) (timesOf img) (legal-image img bytes (accepted img shape e .1)) calls
 
--- the limits of an answer
-pub limits-of-images : LimitsOfImages
-unfolding LimitsOfImages
-limits-of-images img shape bytes e calls k =
-    let ok = legal-image img bytes (accepted img shape e .1) in
+-- after any calls on a fresh layout, the limits of the next
+pub limits-next : (img : List ℕ) → ((i : ℕ) → getD img i 0 < 256) → Sound img → (calls : List Call) (k : Call)
+    → Limits k (call (tableOf img) k (run (tableOf img) calls fresh .layout) .marks)
+limits-next img bytes s calls k =
+    let ok = legal-image img bytes s in
     limits (tableOf img) (timesOf img) ok _ (run (tableOf img) calls fresh .layout) (goes-run (tableOf img) (timesOf img) ok calls up fresh (fit-fresh (timesOf img)) .fit) k

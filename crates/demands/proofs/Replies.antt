@@ -43,7 +43,7 @@ laid-length : (bytes buffer : List ℕ) → length bytes ≤ length buffer → l
 laid-length bytes buffer h = simp (length-append, length-drop) (omega arith)
 
 -- what a call that did so hands back
-abbrev handed : Done → List ℕ → Reply
+abbrev pub handed : Done → List ℕ → Reply
 handed done buffer =
     record {
       result = record { answer = answer.Done (length (codes (done .layout .states))) (noted noNotes (done .marks)); layout = pack (done .layout) };
@@ -61,17 +61,17 @@ module _ (img : List ℕ) (shape : Shape) (e : checkOf img ≡ Accepted shape) w
   unfolding judgedOf judgedBy rule
   fine l room w h = rw (e, lawful-good img l w, le-leb 64 room h)
 
-  stays-lawful : (k : Call) (l : Model) → Lawful img l → Lawful img (call (tableOf img) k l .layout)
+  pub stays-lawful : (k : Call) (l : Model) → Lawful img l → Lawful img (call (tableOf img) k l .layout)
   unfolding call
   stays-lawful Tick l w = tick-lawful img sound l w
   stays-lawful (Enter x) l w = event-lawful img sound x l w
 
-  step-is : (k : Call) (l : Model) → Lawful img l → step img k (pack l) ≡ call (tableOf img) k l
+  pub step-is : (k : Call) (l : Model) → Lawful img l → step img k (pack l) ≡ call (tableOf img) k l
   unfolding step call
   step-is Tick l w = ap (tick (tableOf img)) (unpack-pack img l w)
   step-is (Enter x) l w = ap (event (tableOf img) x) (unpack-pack img l w)
 
-  reply-is : (k : Call) (l : Model) (buffer : List ℕ) → Lawful img l → 64 ≤ length buffer → reply img k (pack l) buffer ≡ handed (call (tableOf img) k l) buffer
+  pub reply-is : (k : Call) (l : Model) (buffer : List ℕ) → Lawful img l → 64 ≤ length buffer → reply img k (pack l) buffer ≡ handed (call (tableOf img) k l) buffer
   unfolding reply answerOf layoutAfter buffered
   reply-is k l buffer w h = rw (fine l (length buffer) w h, step-is k l w)
 
@@ -105,6 +105,15 @@ module _ (img : List ℕ) (shape : Shape) (e : checkOf img ≡ Accepted shape) w
         told = rw (reply-is k l buffer w h, handed-codes r buffer) (t .told);
       }
 
+  -- calls keep a layout lawful
+  lawful-run : (ks : List Call) (l : Model) → Lawful img l → Lawful img (run (tableOf img) ks l .layout)
+  unfolding run
+  lawful-run [] l w = w
+  lawful-run (k ∷ ks) l w = lawful-run ks (call (tableOf img) k l .layout) (stays-lawful k l w)
+
   -- from a fresh layout
+  pub lawful-fresh : (ks : List Call) → Lawful img (run (tableOf img) ks fresh .layout)
+  lawful-fresh ks = lawful-run ks fresh (fresh-lawful img sound)
+
   pub tied-fresh : (ks : List Call) (buffer : List ℕ) → 64 ≤ length buffer → Tied ks fresh buffer
   tied-fresh ks buffer h = tied ks fresh buffer (fresh-lawful img sound) h

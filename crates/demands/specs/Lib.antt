@@ -2,8 +2,8 @@ pub mod Runs
 pub mod Answers
 pub mod Words
 pub mod OnLists
-pub mod Limits
 pub mod Public
+pub mod Limits
 pub mod Demand3
 pub mod Z
 pub mod Reached
