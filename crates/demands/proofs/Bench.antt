@@ -17,10 +17,12 @@ use Rattle.layout.specs.Actions.{push, pushCodes, find, verdict, doAction, deci
 use Rattle.layout.specs.Steps.{held, sum, current, pressed, release, act, into, released, overflow, entered, event, ticked, tick, codes}
 use Rattle.layout.specs.Packed.{noted}
 use Rattle.layout.specs.Calls.{falling, stateGood, rule as layoutRule, judgedBy, judgedOf, answerOf, layoutAfter, buffered}
+use Rattle.demands.specs.Runs.{call, run, ticks}
 use Rattle.demands.specs.Public.{step, reply, replies}
 use Rattle.demands.specs.Z.{zOf, lent}
 use Rattle.demands.specs.Bench.{says, scans, outcome, Holds, AllHold, cases, Bench}
 
+-- `call`, `run` and `ticks` are named for the edit `whole_queue_at_the_first_tick` alone: it computes, and the case fails
 pub bench : Bench
-unfolding every keep alike legal modifier modifierBit freePlace filled placed keyed pressedOf withCodes reportOf wordAt cellOf fieldOf entryOf entries actionOf actionAt codesIn childrenIn listEnd cellAt named meaning trees tree open? someOpen shutButLast settled weight treeIn rule orElse firstFault within countsGood offsetsGood headerGood headFault cellFault form formGood recordFault bodyFault faultOf answer checkOf isPicture isScan grown passed bounceStep eventAt changeAt changes written sizesGood bounceGood bounceState bounceRule makingVerdict eventsVerdict made eventsOf told bounceBuffered push pushCodes find verdict doAction decided held sum current pressed release act into released overflow entered event ticked tick codes noted falling stateGood layoutRule judgedBy judgedOf answerOf layoutAfter buffered step reply replies zOf lent says scans outcome Holds AllHold cases Bench
+unfolding every keep alike legal modifier modifierBit freePlace filled placed keyed pressedOf withCodes reportOf wordAt cellOf fieldOf entryOf entries actionOf actionAt codesIn childrenIn listEnd cellAt named meaning trees tree open? someOpen shutButLast settled weight treeIn rule orElse firstFault within countsGood offsetsGood headerGood headFault cellFault form formGood recordFault bodyFault faultOf answer checkOf isPicture isScan grown passed bounceStep eventAt changeAt changes written sizesGood bounceGood bounceState bounceRule makingVerdict eventsVerdict made eventsOf told bounceBuffered push pushCodes find verdict doAction decided held sum current pressed release act into released overflow entered event ticked tick codes noted falling stateGood layoutRule judgedBy judgedOf answerOf layoutAfter buffered call run ticks step reply replies zOf lent says scans outcome Holds AllHold cases Bench
 bench = (refl, (refl, (refl, (refl, (refl, (refl, (refl, (refl, (refl, (refl, (refl, (refl, tt))))))))))))
