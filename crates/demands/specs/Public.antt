@@ -6,7 +6,9 @@
 -- and let `event` and `tick` be called over one image and one buffer, each on the layout that the call before it handed back.
 -- Each compiled call is proved to meet its contract, and the contract allows one answer alone (crates/layout/proofs/Unique.antt).
 -- The contract's answer for call k is `reply image k`, so the calls hand back `replies image calls (pack fresh) buffer`, in
--- their order. The image is lent for reading: it is the same bytes at each call.
+-- their order. The image is lent for reading: it is the same bytes at each call. `keycodes` hands no layout on, so it may stand
+-- between any two calls; and of a buffer the answer and the layout take its length alone, so another one of 64 bytes or more
+-- may be lent to each call.
 -- Assumes nothing.
 use Prim.Native.Nat.{ℕ}
 use mathlib.Core.Path.{_≡_}
