@@ -25,7 +25,7 @@ use Rattle.layout.specs.declared.run.State.the-variants.{NormalKey, LayerModifi
 use Rattle.layout.specs.declared.run.Way.{Way}
 use Rattle.layout.specs.declared.run.Way.the-variants.{Tap, Hold}
 use Rattle.layout.specs.declared.queue.Found.{Found}
-use Rattle.demands.specs.Demand3.{Leads, Pending, Nothing, Key}
+use Rattle.demands.specs.Words.{Leads, Pending, Nothing, Key}
 use Rattle.demands.proofs.Cost.{cost, share, cost-idle, cost-begun}
 use Rattle.demands.proofs.Marks.{made, Down, down-push}
 

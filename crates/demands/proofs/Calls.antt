@@ -28,7 +28,8 @@ use Rattle.layout.specs.declared.run.Way.{Way}
 use Rattle.layout.specs.declared.run.Way.the-variants.{Tap, Hold}
 use Rattle.layout.specs.declared.queue.Stacked.{Stacked}
 use Rattle.demands.specs.Runs.{Call, Tick, Enter, call, run, arrived}
-use Rattle.demands.specs.Demand3.{Legal, Leads, Nothing, Key, downBy, downAfter}
+use Rattle.demands.specs.Words.{Leads, Nothing, Key, downBy, downAfter}
+use Rattle.demands.specs.OnLists.{Legal}
 use Rattle.demands.proofs.Cost.{cost, share, cost-less, share-whole}
 use Rattle.demands.proofs.Marks.{made, acted-append, leads-append, down-append, Down, down-nil, down-head, down-cons, down-more}
 use Rattle.demands.proofs.Actions.{Ends, ends-hold, ends-tap, pending, waits, Good, Sure, good-idle, good-more, good-cost, ran}

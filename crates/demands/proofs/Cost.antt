@@ -7,7 +7,7 @@ use Rattle.event.specs.declared.Coord.{Coord}
 use Rattle.image.specs.Tree.{Action}
 use Rattle.image.specs.Legal.{Times}
 use Rattle.layout.specs.Model.{Waiting, Idle, Waits}
-use Rattle.demands.specs.Demand3.{bound}
+use Rattle.demands.specs.Words.{bound}
 
 -- what waits
 unfoldable pub cost : Times → Waiting → ℕ

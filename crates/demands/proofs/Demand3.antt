@@ -1,92 +1,100 @@
--- Demand 3, proved of every legal table and of every accepted image.
+-- Demand 3 of the public calls, proved of every accepted image: by the tie, from the same of the layout as lists.
 -- Assumes nothing.
 use Prim.Native.Nat.{ℕ, _≤_, _<_}
-use mathlib.Core.Path.{_≡_, refl, sym, _∙_}
-use mathlib.Core.Bool.{Bool, false}
-use mathlib.Core.List.{List, [], _∷_, _++_, append-nil}
-use lib.Ieee.Bits.{is-true}
-use lib.ListN.{getD}
+use mathlib.Core.Path.{_≡_, refl, ap}
+use mathlib.Core.Bool.{Bool, true, false}
+use mathlib.Core.List.{List, [], _∷_, _++_}
+use native.Mathlib.Omega.{arith}
+use borrow.Author.Tests.{leb-true}
+use lib.Dec.{leb}
+use lib.ListN.{length, getD}
+use Rattle.lists.specs.Lists.{every}
+use Rattle.lists.proofs.Laws.{both-true}
 use Rattle.codes.specs.Report.{withCodes, reportOf}
-use Rattle.event.specs.declared.Coord.{Coord}
-use Rattle.image.specs.Legal.{Times, legal}
-use Rattle.image.specs.Sound.{Sound}
-use Rattle.image.specs.Table.{Table, tableOf, timesOf}
-use Rattle.image.proofs.Accepted.{accepted, legal-table, times-word}
-use Rattle.layout.specs.Model.{Model, fresh}
-use Rattle.layout.specs.Packed.{actedOn}
+use Rattle.refusal.specs.declared.Refusal.{Refusal}
+use Rattle.image.specs.Check.{checkOf}
+use Rattle.image.specs.Table.{tableOf, timesOf}
+use Rattle.image.specs.declared.words.Shape.{Shape}
+use Rattle.image.specs.declared.rules.Checked.{Checked}
+use Rattle.image.specs.declared.rules.Checked.the-variants.{Accepted, Refused}
+use Rattle.image.proofs.Accepted.{accepted}
+use Rattle.layout.specs.Model.{Model, Done, fresh}
 use Rattle.layout.specs.Steps.{codes}
-use Rattle.demands.specs.Runs.{Call, call, run, ticks, arrived}
-use Rattle.demands.specs.Demand3.{drain, queuedAfter, bound, Quiet, AllReleased, Demand3, Legal, OfTables, OfImages}
-use Rattle.demands.specs.Limits.{OfImages as LimitsOfImages}
-use Rattle.demands.proofs.Marks.{down-nil, arrived-append, arrived-ticks, down-none}
-use Rattle.demands.proofs.Actions.{Good}
-use Rattle.demands.proofs.Calls.{Fit, Goes, goes-run}
-use Rattle.demands.proofs.Drain.{drains, draining-start}
-use Rattle.demands.proofs.Limits.{limits}
-use Rattle.demands.proofs.Answers.{names-events, names-decisions}
+use Rattle.layout.specs.Packed.{waitingIn}
+use Rattle.layout.specs.Calls.{pack, stateGood, rule, judgedBy, judgedOf, answerOf}
+use Rattle.layout.specs.declared.layout.Layout.{Layout}
+use Rattle.layout.specs.declared.layout.Judged.{Judged}
+use Rattle.layout.proofs.Acts.{noted-acted}
+use Rattle.layout.proofs.Decisions.{noted-all}
+use Rattle.demands.specs.Runs.{Call, call, ticks, run}
+use Rattle.demands.specs.Words.{bound}
+use Rattle.demands.specs.Public.{step, reply, isDone, NoneRefused}
+use Rattle.demands.specs.OnLists.{Quiet, OnLists, OfImages as OnListsOfImages}
+use Rattle.demands.specs.Limits.{Limits, Names, OfImages as LimitsOfImages}
+use Rattle.demands.specs.Demand3.{boundOf, AtRest, Demand3, OfImages, Given, Heard}
+use Rattle.demands.proofs.Answers.{most-two}
+use Rattle.demands.proofs.OnLists.{of-images as lists-of-images, limits-next}
+use Rattle.demands.proofs.Replies.{handed, step-is, reply-is, Tied, lawful-fresh, tied-fresh}
 
-run-append : (t : Table) (a b : List Call) (l : Model) → (run t (a ++ b) l) .layout ≡ (run t b ((run t a l) .layout)) .layout
-unfolding run
-run-append t [] b l = refl
-run-append t (k ∷ a) b l = run-append t a b ((call t k l) .layout)
+pub at-rest : (l : Model) → Quiet l → AtRest (pack l)
+at-rest l q = record { empty = ap length (q .empty); idle = ap waitingIn (q .idle) }
 
-up : Coord → Bool
-up c = false
+module _ (img : List ℕ) (shape : Shape) (bytes : (i : ℕ) → getD img i 0 < 256) (e : checkOf img ≡ Accepted shape) (buffer : List ℕ) (room : 64 ≤ length buffer) (calls : List Call) where
+  lists : OnLists (tableOf img) (timesOf img) calls
+  unfolding OnListsOfImages
+  lists = lists-of-images img shape bytes e calls
 
-fit-fresh : (m : Times) → Fit m up fresh
-unfolding Good
-fit-fresh m = record { wait = tt; down = down-nil up }
+  after : (n : ℕ) → Tied img shape e (calls ++ ticks n) fresh buffer
+  after n = tied-fresh img shape e (calls ++ ticks n) buffer room
 
-module _ (t : Table) (m : Times) (ok : Legal t m) (calls : List Call) where
-  goes : (ks : List Call) → Goes m (arrived ks) up fresh ((run t ks fresh) .layout) ((run t ks fresh) .marks)
-  goes ks = goes-run t m ok ks up fresh (fit-fresh m)
+  -- the bound is that of the lists
+  enough : (n : ℕ) → boundOf img buffer calls ≤ n → bound (length (run (tableOf img) calls fresh .layout .queue)) (timesOf img) ≤ n
+  enough n h = rw (tied-fresh img shape e calls buffer room .layout) at h
 
-  came : (n : ℕ) → arrived (calls ++ ticks n) ≡ arrived calls
-  came n = arrived-append calls (ticks n) ∙ rw (arrived-ticks n) (append-nil _)
-
-  rests : (n : ℕ) → bound (queuedAfter t calls) m ≤ n → Quiet (drain t calls n .layout)
-  rests n b =
-      let first = goes calls .fit in
-      rw run-append (drains t m ok n 0 _ ((run t calls fresh) .layout) first (draining-start m n _ ((run t calls fresh) .layout) (first .wait) b))
-
-  ordered : (n : ℕ) → bound (queuedAfter t calls) m ≤ n → actedOn (drain t calls n .marks) ≡ arrived calls
-  ordered n b = sym (append-nil _) ∙ (rw (rests n b .empty) at (goes (calls ++ ticks n) .order)) ∙ came n
-
-  none : AllReleased (arrived calls) → (n : ℕ) → bound (queuedAfter t calls) m ≤ n → drain t calls n .layout .states ≡ []
-  unfolding AllReleased up
-  none f n b = down-none _ (λ c. rw (ordered n b) (f c)) _ (goes (calls ++ ticks n) .fit .down)
-
-  demand3 : Demand3 t m calls
+  demand3 : Demand3 img buffer calls
   unfolding codes reportOf withCodes
   demand3 =
       record {
-        drained = rests;
-        acted = ordered;
-        named = λ n b. names-events t m ok (calls ++ ticks n) up fresh (fit-fresh m) ∙ ordered n b;
-        decided = λ n b. rw (rests n b .idle) at (goes (calls ++ ticks n) .leads);
-        told = λ n. names-decisions t m ok (calls ++ ticks n) up fresh (fit-fresh m);
-        stateless = none;
-        zeros = λ f n b. rw (none f n b);
+        unrefused = λ n. after n .heard;
+        drained = λ n h. rw (after n .layout) (at-rest _ (lists .drained n (enough n h)));
+        acted = λ n h. rw (after n .marks) (lists .acted n (enough n h));
+        named = λ n h. rw (after n .notes) (lists .named n (enough n h));
+        decided = λ n h. rw (after n .marks) (lists .decided n (enough n h));
+        named-decisions = λ n. rw (after n .notes, after n .marks) (lists .told n);
+        stateless = λ f n h. rw (after n .layout, lists .stateless f n (enough n h));
+        zeros = λ f n h. rw (after n .told, lists .stateless f n (enough n h));
       }
 
-pub of-tables : OfTables
-unfolding OfTables
-of-tables t m ok calls = demand3 t m ok calls
-
-legal-image : (img : List ℕ) → ((i : ℕ) → getD img i 0 < 256) → Sound img → Legal (tableOf img) (timesOf img)
-legal-image img bytes s =
-    record {
-      word = times-word img s bytes;
-      cells = λ l r c. is-true (legal (tableOf img .cell l r c) (timesOf img)) (legal-table img l r c s);
-    }
-
 pub of-images : OfImages
-unfolding OfImages OfTables
-of-images img shape bytes e calls = of-tables (tableOf img) (timesOf img) (legal-image img bytes (accepted img shape e .1)) calls
+unfolding OfImages
+of-images img shape bytes e buffer room calls = demand3 img shape bytes e buffer room calls
 
--- the limits of an answer
+-- the limits of an answer, and that it names what was done
+names : (k : Call) (done : Done) (buffer : List ℕ) → Limits k (done .marks) → Names (done .marks) (handed done buffer)
+names k done buffer x = record { acted = noted-acted (done .marks) (x .acts); decided = noted-all (done .marks) (omega (arith, x .decides, most-two k)) }
+
 pub limits-of-images : LimitsOfImages
 unfolding LimitsOfImages
-limits-of-images img shape bytes e calls k =
-    let ok = legal-image img bytes (accepted img shape e .1) in
-    limits (tableOf img) (timesOf img) ok _ (run (tableOf img) calls fresh .layout) (goes-run (tableOf img) (timesOf img) ok calls up fresh (fit-fresh (timesOf img)) .fit) k
+limits-of-images img shape bytes e buffer room calls k =
+    let l = run (tableOf img) calls fresh .layout in
+    let x = limits-next img bytes (accepted img shape e .1) calls k in
+    let w = lawful-fresh img shape e calls in
+    rw (tied-fresh img shape e calls buffer room .layout, step-is img shape e k l w, reply-is img shape e k l buffer w room) (x, names k (call (tableOf img) k l) buffer x)
+
+-- a rule that is kept
+heard-rule : (test : Bool) (r : Refusal) (rest : Judged) (done : Done) → isDone (answerOf (rule test r rest) done) ≡ true → (test ≡ true) × (isDone (answerOf rest done) ≡ true)
+unfolding rule answerOf
+heard-rule true r rest done h = (refl, h)
+heard-rule false r rest done h = (h, cc)
+
+heard-by : (x : Checked) (img : List ℕ) (layout : Layout) (buffer : List ℕ) (done : Done) → checkOf img ≡ x → isDone (answerOf (judgedBy x img layout (length buffer)) done) ≡ true → Given img buffer
+unfolding judgedBy answerOf
+heard-by (Accepted s) img layout buffer done e h =
+    let a = heard-rule (stateGood img layout) _ _ done h in
+    let b = heard-rule (leb 64 (length buffer)) _ _ done (a .1) in
+    record { shape = s; accepted = e; room = leb-true 64 (length buffer) (b .0) }
+heard-by (Refused r place) img layout buffer done e h = let z : _≡_ {A = ℕ} 0 1 = cc in absurd (omega arith)
+
+pub heard : Heard
+unfolding Heard NoneRefused every reply judgedOf
+heard img k layout buffer h = heard-by (checkOf img) img layout buffer (step img k layout) refl (both-true _ _ h .0)

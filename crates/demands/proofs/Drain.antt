@@ -13,7 +13,8 @@ use Rattle.layout.specs.Model.{Waiting, Idle, Waits, Model, withWaiting, withQu
 use Rattle.layout.specs.Steps.{act, older, tickWait, ticked, tick}
 use Rattle.layout.specs.declared.queue.Stacked.{Stacked}
 use Rattle.demands.specs.Runs.{call, run, ticks}
-use Rattle.demands.specs.Demand3.{Legal, Quiet, bound}
+use Rattle.demands.specs.Words.{bound}
+use Rattle.demands.specs.OnLists.{Legal, Quiet}
 use Rattle.demands.proofs.Cost.{cost, share, each, cost-idle, cost-pos, cost-less, cost-tick, Due, due-acted, due-start}
 use Rattle.demands.proofs.Actions.{Good, good-cost}
 use Rattle.demands.proofs.Calls.{Fit, fit-wait, acts, expires, goes-tick}

@@ -5,5 +5,8 @@ pub mod Calls
 pub mod Drain
 pub mod Limits
 pub mod Answers
+pub mod OnLists
+pub mod Replies
 pub mod Demand3
 pub mod Reached
+pub mod Bench

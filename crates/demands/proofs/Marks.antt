@@ -15,7 +15,7 @@ use Rattle.layout.specs.Steps.{coordIn}
 use Rattle.layout.specs.declared.run.State.{State}
 use Rattle.layout.specs.declared.run.Way.{Way}
 use Rattle.demands.specs.Runs.{Call, Tick, Enter, ticks, arrived}
-use Rattle.demands.specs.Demand3.{Leads, Pending, Nothing, Key, downBy, downAfter}
+use Rattle.demands.specs.Words.{Leads, Pending, Nothing, Key, downBy, downAfter}
 
 pub acted-append : (ms ns : List Mark) → actedOn (ms ++ ns) ≡ actedOn ms ++ actedOn ns
 unfolding actedOn

@@ -1,13 +1,13 @@
 -- The case that reaches the bound of demand 3, and the one that meets what it asks for, computed from the image's bytes.
 -- Assumes nothing.
-use Prim.Native.Nat.{ℕ, zero, suc, _<_}
-use mathlib.Core.Path.{_≡_, refl}
+use Prim.Native.Nat.{ℕ, zero, suc, _+_, _*_, _≤_, _<_, max}
+use mathlib.Core.Path.{_≡_, refl, ap, _∙_}
 use mathlib.Core.Bool.{Bool, true, false, cond}
-use mathlib.Core.List.{List, [], _∷_}
+use mathlib.Core.List.{List, [], _∷_, _++_}
 use native.Mathlib.Omega.{arith}
 use borrow.Author.Tests.{ltb-true, lt-ltb}
 use lib.Dec.{ltb}
-use lib.ListN.{getD}
+use lib.ListN.{length, getD, length-replicate}
 use Rattle.lists.specs.Lists.{every, keep}
 use Rattle.lists.proofs.Laws.{every-head}
 use Rattle.codes.specs.Codes.{legal}
@@ -19,14 +19,19 @@ use Rattle.image.specs.Tree.{KeyCode, named, meaning, trees, tree, open?, someO
 use Rattle.image.specs.Table.{treeIn, tableOf, longestBelow, timesOf}
 use Rattle.image.specs.Check.{rule, orElse, firstFault, within, countsGood, offsetsGood, headerGood, headFault, cellFault, form, formGood, recordFault, bodyFault, faultOf, answer, checkOf}
 use Rattle.image.specs.declared.rules.Checked.the-variants.{Accepted}
-use Rattle.layout.specs.Model.{Waits, Acted, Begun, Decided, same}
+use Rattle.layout.specs.Model.{Waits, Acted, Begun, Decided, fresh, same}
 use Rattle.layout.specs.Actions.{push, pushCodes, find, verdict, doAction, decided}
 use Rattle.layout.specs.Steps.{held, sum, current, pressed, release, act, into, released, overflow, entered, event, ticked, tick}
 use Rattle.layout.specs.declared.run.Way.the-variants.{Tap}
-use Rattle.demands.specs.Runs.{call, run, ticks, arrived}
-use Rattle.demands.specs.Demand3.{drain, queuedAfter, Quiet, downAfter, AllReleased, Demand3, OfImages}
-use Rattle.demands.specs.Reached.{zOf, seventeen, tapped, Reached, Met}
-use Rattle.demands.proofs.Demand3.{of-images}
+use Rattle.layout.specs.declared.layout.Layout.{Layout}
+use Rattle.demands.specs.Runs.{Call, call, run, ticks, arrived}
+use Rattle.demands.specs.Words.{bound, downAfter, AllReleased}
+use Rattle.demands.specs.OnLists.{drain, queuedAfter, Quiet}
+use Rattle.demands.specs.Demand3.{boundOf, Demand3, OfImages}
+use Rattle.demands.specs.Z.{zOf, lent}
+use Rattle.demands.specs.Reached.{seventeen, tapped, Asked, Reached, Met}
+use Rattle.demands.proofs.Replies.{Tied, tied-fresh}
+use Rattle.demands.proofs.Demand3.{at-rest, of-images}
 
 -- a list of bytes
 bytes-of : (l : List ℕ) → every (λ b. ltb b 256) l ≡ true → (i : ℕ) → getD l i 0 < 256
@@ -60,14 +65,26 @@ computed : Computed
 unfolding zOf seventeen tapped keep wordAt cellOf fieldOf actionOf actionAt cellAt named meaning trees tree treeIn push pushCodes find verdict doAction decided held sum current pressed release act into released overflow entered event ticked tick call run ticks
 computed = record { queued = refl; before = refl; at = record { empty = refl; idle = refl }; two = refl; done = refl }
 
+lent-room : 64 ≤ length lent
+unfolding lent
+lent-room = rw length-replicate (omega arith)
+
+asked : (t : ℕ) → t < 256 → Asked (zOf t) lent
+asked t h = record { bytes = z-bytes t h; accepted = z-accepted t; room = lent-room }
+
+tied-z : (t : ℕ) (ks : List Call) → Tied (zOf t) (shapeOf (zOf t)) (z-accepted t) ks fresh lent
+tied-z t ks = tied-fresh (zOf t) (shapeOf (zOf t)) (z-accepted t) ks lent lent-room
+
+bound-z : (t q : ℕ) (ks : List Call) → queuedAfter (tableOf (zOf t)) ks ≡ q → boundOf (zOf t) lent ks ≡ 2 * q + max 1 t
+bound-z t q ks e = rw (tied-z t ks .layout, e, z-longest t)
+
 pub reached : Reached
 reached =
     record {
-      bytes = z-bytes 1 (omega arith);
-      accepted = z-accepted 1;
-      most = rw (computed .queued, z-longest 1);
-      before = λ q. let z : _≡_ {A = ℕ} 0 1 = cc (computed .before, q .idle) in omega arith;
-      at = computed .at;
+      asked = asked 1 (omega arith);
+      most = bound-z 1 16 seventeen (computed .queued);
+      before = λ q. let z : _≡_ {A = ℕ} 0 1 = cc (ap (λ (l : Layout). l .waiting) (tied-z 1 (seventeen ++ ticks 32) .layout), computed .before, q .idle) in omega arith;
+      at = rw (tied-z 1 (seventeen ++ ticks 33) .layout) (at-rest _ (computed .at));
     }
 
 -- a press, then a release, of one key
@@ -79,18 +96,19 @@ pub met : Met
 unfolding AllReleased arrived tapped downAfter
 met =
     record {
-      bytes = z-bytes 3 (omega arith);
-      accepted = z-accepted 3;
+      asked = asked 3 (omega arith);
       released = λ c. up-again (same (record { i = 0; j = 0 }) c);
-      most = rw (computed .two, z-longest 3);
-      done = computed .done;
+      most = bound-z 3 2 tapped (computed .two);
+      done = tied-z 3 (tapped ++ ticks 7) .marks ∙ computed .done;
     }
 
 -- so demand 3 speaks of both
-pub reached-settles : Demand3 (tableOf (zOf 1)) (timesOf (zOf 1)) seventeen
+settles : (image buffer : List ℕ) (calls : List Call) → Asked image buffer → Demand3 image buffer calls
 unfolding OfImages
-reached-settles = of-images (zOf 1) (shapeOf (zOf 1)) (reached .bytes) (reached .accepted) seventeen
+settles image buffer calls a = of-images image (shapeOf image) (a .bytes) (a .accepted) buffer (a .room) calls
 
-pub met-settles : Demand3 (tableOf (zOf 3)) (timesOf (zOf 3)) tapped
-unfolding OfImages
-met-settles = of-images (zOf 3) (shapeOf (zOf 3)) (met .bytes) (met .accepted) tapped
+pub reached-settles : Demand3 (zOf 1) lent seventeen
+reached-settles = settles (zOf 1) lent seventeen (reached .asked)
+
+pub met-settles : Demand3 (zOf 3) lent tapped
+met-settles = settles (zOf 3) lent tapped (met .asked)

@@ -1,109 +1,78 @@
--- Demand 3: a layout left alone comes to rest. The words "begun", "acted on" and "decided" mean the marks of the layout's
+-- Demand 3: a layout left alone comes to rest. It is said of runs of the public calls (specs/Public.antt), and of every
+-- image that the image's check accepts. The words "begun", "acted on" and "decided" mean the marks of the layout's
 -- steps (document 01, Layout, and "How much each statement must say"), and the report is that of the crate codes.
---     Demand3      the demand, of one table and one list of calls, each clause a part
---     OfTables     it holds of every table that is legal with its times
---     OfImages     it holds of every image of bytes that the image's check accepts, with the image's own longest hold time
+--     Demand3      the demand, of one image and one list of calls, each clause a part
+--     OfImages     it holds of every image of bytes that is accepted, and of every list of calls that are lent 64 bytes
+--     Heard        a call that is not refused has such an image and such a buffer, so the demand holds wherever none is
 -- Assumes nothing.
-use Prim.Native.Nat.{ℕ, _+_, _*_, _≤_, _<_, max}
+use Prim.Native.Nat.{ℕ, _≤_, _<_}
 use mathlib.Core.Path.{_≡_}
-use mathlib.Core.Bool.{Bool, true, false, cond}
 use mathlib.Core.List.{List, [], _∷_, _++_}
 use lib.ListN.{length, replicate, getD}
 use Rattle.codes.specs.Report.{reportOf}
-use Rattle.event.specs.Bytes.{coordOf}
-use Rattle.event.specs.declared.Coord.{Coord}
-use Rattle.event.specs.declared.Event.{Event}
-use Rattle.event.specs.declared.Event.the-variants.{Release, Press}
 use Rattle.image.specs.Check.{checkOf}
-use Rattle.image.specs.Legal.{Times, legal}
-use Rattle.image.specs.Table.{Table, tableOf, timesOf}
+use Rattle.image.specs.Table.{timesOf}
 use Rattle.image.specs.declared.words.Shape.{Shape}
 use Rattle.image.specs.declared.rules.Checked.the-variants.{Accepted}
-use Rattle.layout.specs.Model.{Model, Idle, Mark, Acted, Begun, Decided, Done, fresh, same}
+use Rattle.layout.specs.Model.{Mark, fresh}
 use Rattle.layout.specs.Packed.{actedOn, decisions}
-use Rattle.layout.specs.Steps.{codes}
-use Rattle.layout.specs.declared.run.Notes.{Notes}
-use Rattle.demands.specs.Runs.{Call, run, ticks, arrived}
-use Rattle.demands.specs.Answers.{answers, namedEvents, namedDecisions}
+use Rattle.layout.specs.Calls.{pack}
+use Rattle.layout.specs.declared.run.Waiting.the-variants as waiting
+use Rattle.layout.specs.declared.layout.Layout.{Layout}
+use Rattle.demands.specs.Runs.{Call, ticks, arrived}
+use Rattle.demands.specs.Answers.{namedEvents, namedDecisions}
+use Rattle.demands.specs.Words.{bound, Leads, Nothing, AllReleased}
+use Rattle.demands.specs.Public.{Reply, reply, replies, marksOf, lastLayout, lastCodes, notesOf, NoneRefused}
 
--- the calls on a fresh layout over the table, then n ticks
-abbrev pub drain : Table → List Call → ℕ → Done
-drain table calls n = run table (calls ++ ticks n) fresh
+-- the calls on a fresh layout, then n ticks alone: what they hand back, the layout that they leave, and what their steps did
+abbrev pub ran : List ℕ → List ℕ → List Call → ℕ → List Reply
+ran image buffer calls n = replies image (calls ++ ticks n) (pack fresh) buffer
 
--- the answers of the same
-abbrev pub drainAnswers : Table → List Call → ℕ → List Notes
-drainAnswers table calls n = answers table (calls ++ ticks n) fresh
+abbrev pub left : List ℕ → List ℕ → List Call → ℕ → Layout
+left image buffer calls n = lastLayout (pack fresh) (ran image buffer calls n)
 
--- how many events are queued after the calls
-abbrev pub queuedAfter : Table → List Call → ℕ
-queuedAfter table calls = length (run table calls fresh .layout .queue)
+abbrev pub did : List ℕ → List ℕ → List Call → ℕ → List Mark
+did image buffer calls n = marksOf image (calls ++ ticks n) (pack fresh) buffer
 
--- 2q + max(1, M)
-abbrev pub bound : ℕ → Times → ℕ
-bound queued times = 2 * queued + max 1 (times .first)
+-- 2q + max(1, M): q events are queued after the calls, and M is the image's longest hold time
+abbrev pub boundOf : List ℕ → List ℕ → List Call → ℕ
+boundOf image buffer calls = bound (lastLayout (pack fresh) (replies image calls (pack fresh) buffer) .queued) (timesOf image)
 
 -- the queue is empty and nothing waits
-pub record Quiet (l : Model) : Type 0 where
-  pub empty : l .queue ≡ []
-  pub idle : l .waiting ≡ Idle
+pub record AtRest (layout : Layout) : Type 0 where
+  pub empty : layout .queued ≡ 0
+  pub idle : layout .waiting ≡ waiting.Nothing
 
--- the hold-tap begun and not yet decided, if any
-pub data Pending : Type 0 where
-  Nothing : Pending
-  Key : Coord → Pending
-
--- from what is pending the marks lead to what is pending: an event is acted on, and a hold-tap begun, only while none is
--- pending, and only the pending one is decided, and then it is pending no more
-unfoldable pub Leads : Pending → List Mark → Pending → Type 0
-Leads p [] r = p ≡ r
-Leads Nothing (Acted e ∷ ms) r = Leads Nothing ms r
-Leads Nothing (Begun c ∷ ms) r = Leads (Key c) ms r
-Leads Nothing (Decided c way ∷ ms) r = ⊥
-Leads (Key d) (Acted e ∷ ms) r = ⊥
-Leads (Key d) (Begun c ∷ ms) r = ⊥
-Leads (Key d) (Decided c way ∷ ms) r = (c ≡ d) × Leads Nothing ms r
-
--- whether the event is a press
-abbrev pub isPress : Event → Bool
-isPress (Release i j) = false
-isPress (Press i j) = true
-
--- whether the key at the coordinates is down after an event, and after the events: its last one says. `before` is for a
--- key that had none
-abbrev pub downBy : Event → Coord → Bool → Bool
-downBy e c before = cond (same (coordOf e) c) (isPress e) before
-
-unfoldable pub downAfter : List Event → Coord → Bool → Bool
-downAfter [] c before = before
-downAfter (e ∷ es) c before = downAfter es c (downBy e c before)
-
--- every key's last event, if it had any, was a release
-unfoldable pub AllReleased : List Event → Type 0
-AllReleased es = (c : Coord) → downAfter es c false ≡ false
-
--- for the calls on a fresh layout over the table, then ticks alone, n of them, where n is the bound or more
-pub record Demand3 (table : Table) (times : Times) (calls : List Call) : Type 0 where
+-- for the calls on a fresh layout over the image, then n ticks alone, a code buffer lent to each
+pub record Demand3 (image buffer : List ℕ) (calls : List Call) : Type 0 where
+  -- no call is refused
+  pub unrefused : (n : ℕ) → NoneRefused (ran image buffer calls n)
   -- within the bound the queue is empty and nothing waits, and so it stays
-  pub drained : (n : ℕ) → bound (queuedAfter table calls) times ≤ n → Quiet (drain table calls n .layout)
+  pub drained : (n : ℕ) → boundOf image buffer calls ≤ n → AtRest (left image buffer calls n)
   -- each event was acted on once, in order of arrival; and the answers name just these
-  pub acted : (n : ℕ) → bound (queuedAfter table calls) times ≤ n → actedOn (drain table calls n .marks) ≡ arrived calls
-  pub named : (n : ℕ) → bound (queuedAfter table calls) times ≤ n → namedEvents (drainAnswers table calls n) ≡ arrived calls
-  -- each hold-tap begun was decided once, before any later event was acted on; and the answers name just these decisions
-  pub decided : (n : ℕ) → bound (queuedAfter table calls) times ≤ n → Leads Nothing (drain table calls n .marks) Nothing
-  pub told : (n : ℕ) → namedDecisions (drainAnswers table calls n) ≡ decisions (drain table calls n .marks)
-  -- if every key's last event was a release, no state is left and the report is eight zero bytes
-  pub stateless : AllReleased (arrived calls) → (n : ℕ) → bound (queuedAfter table calls) times ≤ n → drain table calls n .layout .states ≡ []
-  pub zeros : AllReleased (arrived calls) → (n : ℕ) → bound (queuedAfter table calls) times ≤ n → reportOf (codes (drain table calls n .layout .states)) ≡ replicate 8 0
-
--- every action of the table keeps the open rule, and no hold time passes the longest, which is a word
-pub record Legal (table : Table) (times : Times) : Type 0 where
-  pub word : times .first ≤ 65535
-  pub cells : (layer row column : ℕ) → legal (table .cell layer row column) times ≡ true
-
-unfoldable pub OfTables : Type 0
-OfTables = (table : Table) (times : Times) → Legal table times → (calls : List Call) → Demand3 table times calls
+  pub acted : (n : ℕ) → boundOf image buffer calls ≤ n → actedOn (did image buffer calls n) ≡ arrived calls
+  pub named : (n : ℕ) → boundOf image buffer calls ≤ n → namedEvents (notesOf (ran image buffer calls n)) ≡ arrived calls
+  -- each hold-tap begun was decided once, tap or hold, before any later event was acted on; and the answers name just these
+  -- decisions
+  pub decided : (n : ℕ) → boundOf image buffer calls ≤ n → Leads Nothing (did image buffer calls n) Nothing
+  pub named-decisions : (n : ℕ) → namedDecisions (notesOf (ran image buffer calls n)) ≡ decisions (did image buffer calls n)
+  -- if every key's last event was a release, no state is left, and the report of the last answer's codes is eight zero bytes
+  pub stateless : AllReleased (arrived calls) → (n : ℕ) → boundOf image buffer calls ≤ n → left image buffer calls n .len ≡ 0
+  pub zeros :
+      AllReleased (arrived calls) → (n : ℕ) → boundOf image buffer calls ≤ n
+      → reportOf (lastCodes [] (ran image buffer calls n)) ≡ replicate 8 0
 
 unfoldable pub OfImages : Type 0
 OfImages =
-    (image : List ℕ) (shape : Shape) → ((i : ℕ) → getD image i 0 < 256) → checkOf image ≡ Accepted shape → (calls : List Call)
-    → Demand3 (tableOf image) (timesOf image) calls
+    (image : List ℕ) (shape : Shape) → ((i : ℕ) → getD image i 0 < 256) → checkOf image ≡ Accepted shape
+    → (buffer : List ℕ) → 64 ≤ length buffer → (calls : List Call)
+    → Demand3 image buffer calls
+
+-- what a call that is not refused was given. So `OfImages` speaks of every run in which there is a call and none is refused
+pub record Given (image buffer : List ℕ) : Type 0 where
+  pub shape : Shape
+  pub accepted : checkOf image ≡ Accepted shape
+  pub room : 64 ≤ length buffer
+
+unfoldable pub Heard : Type 0
+Heard = (image : List ℕ) (k : Call) (layout : Layout) (buffer : List ℕ) → NoneRefused (reply image k layout buffer ∷ []) → Given image buffer

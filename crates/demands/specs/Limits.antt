@@ -1,29 +1,44 @@
 -- The limits of an answer: document 01, Layout, its last paragraph. A call acts on at most one event; a tick makes at most
--- one decision, an event at most two.
+-- one decision, an event at most two; and the answer names them all. That a layout which calls lead to is never refused State
+-- is `never-refused-state` of crates/layout/proofs/Reach.antt, and `unrefused` of specs/Demand3.antt where 64 bytes are lent.
 -- Assumes nothing.
 use Prim.Native.Nat.{ℕ, _≤_, _<_}
 use mathlib.Core.Path.{_≡_}
 use mathlib.Core.List.{List}
 use lib.ListN.{length, getD}
 use Rattle.image.specs.Check.{checkOf}
-use Rattle.image.specs.Table.{tableOf}
 use Rattle.image.specs.declared.words.Shape.{Shape}
 use Rattle.image.specs.declared.rules.Checked.the-variants.{Accepted}
 use Rattle.layout.specs.Model.{Mark, fresh}
-use Rattle.layout.specs.Packed.{actedOn, decisions}
-use Rattle.demands.specs.Runs.{Call, Tick, Enter, call, run}
+use Rattle.layout.specs.Packed.{actedOn, decisions, actedIn, madeIn}
+use Rattle.layout.specs.Calls.{pack}
+use Rattle.layout.specs.declared.layout.Layout.{Layout}
+use Rattle.demands.specs.Runs.{Call, Tick, Enter}
+use Rattle.demands.specs.Public.{Reply, step, reply, replies, lastLayout, told}
 
 -- how many decisions a call makes at most
 abbrev pub most : Call → ℕ
 most Tick = 1
 most (Enter e) = 2
 
+-- what the step of a call did
 pub record Limits (k : Call) (marks : List Mark) : Type 0 where
   pub acts : length (actedOn marks) ≤ 1
   pub decides : length (decisions marks) ≤ most k
 
--- over every image of bytes that is accepted, after any calls, of the next one
+-- the answer names just that
+pub record Names (marks : List Mark) (r : Reply) : Type 0 where
+  pub acted : actedIn (told r .notes .acted) ≡ actedOn marks
+  pub decided : madeIn (told r .notes) ≡ decisions marks
+
+-- the layout after calls on a fresh one
+abbrev pub after : List ℕ → List ℕ → List Call → Layout
+after image buffer calls = lastLayout (pack fresh) (replies image calls (pack fresh) buffer)
+
+-- over every image of bytes that is accepted, after any calls, of the next one; 64 bytes are lent to each
 unfoldable pub OfImages : Type 0
 OfImages =
-    (image : List ℕ) (shape : Shape) → ((i : ℕ) → getD image i 0 < 256) → checkOf image ≡ Accepted shape → (calls : List Call) (k : Call)
-    → Limits k (call (tableOf image) k (run (tableOf image) calls fresh .layout) .marks)
+    (image : List ℕ) (shape : Shape) → ((i : ℕ) → getD image i 0 < 256) → checkOf image ≡ Accepted shape
+    → (buffer : List ℕ) → 64 ≤ length buffer → (calls : List Call) (k : Call)
+    → Limits k (step image k (after image buffer calls) .marks)
+    × Names (step image k (after image buffer calls) .marks) (reply image k (after image buffer calls) buffer)

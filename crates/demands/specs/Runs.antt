@@ -1,6 +1,5 @@
--- Runs of calls on a layout, and the events that came in. Document 01, Layout.
--- The contracts of the compiled calls speak of these steps, for an accepted image and a layout that is not
--- refused: so a list of calls, none refused, is a run, each call's layout being the one that the call before it left.
+-- Runs of the layout's steps on its lists, and the events that came in. Document 01, Layout. Runs of the public calls, and
+-- how the compiled calls make them, are in specs/Public.antt; proofs/Replies.antt ties the two.
 -- Assumes nothing.
 use Prim.Native.Nat.{ℕ}
 use mathlib.Core.List.{List, [], _∷_}

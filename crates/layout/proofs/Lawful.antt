@@ -20,6 +20,7 @@ use Rattle.image.specs.Table.{tableOf}
 use Rattle.layout.specs.Model.{Model, Waiting, Idle, Waits, Done, fresh, still, withBase, withStates, withWaiting, withQueue}
 use Rattle.layout.specs.Actions.{push, pushCodes, Verdict, Open, Now, verdict, find, begins, doAction, doActions, chosen, decided}
 use Rattle.layout.specs.Steps.{current, held, orDefault, pressed, stays, release, act, into, intoHold, released, releases, overflow, appended, entered, event, older, tickWait, ticked, tick}
+use Rattle.layout.specs.Packed.{holdOf, tapOf}
 use Rattle.layout.specs.Calls.{legalState, falling, mayWait}
 use Rattle.layout.specs.declared.run.State.{State}
 use Rattle.layout.specs.declared.run.State.the-variants.{NormalKey, LayerModifier}
@@ -30,10 +31,12 @@ use Rattle.layout.specs.declared.queue.Stacked.{Stacked}
 use Rattle.layout.proofs.Pads.{keep-length}
 use Rattle.layout.proofs.Rooted.{Rooted, AllRooted, rooted-cell}
 
--- what waits is a HoldTap of the table with no more ticks left than its timeout, and what it runs is of the table
+-- what waits is a HoldTap of the table with no more ticks left than its timeout, and what it runs is of the table: the hold
+-- and the tap of its record
 abbrev pub WaitsWell : List ℕ → Waiting → Type 0
 WaitsWell img Idle = Unit
-WaitsWell img (Waits c left i hold tap) = (mayWait (tree img i) left ≡ true) × Rooted img hold × Rooted img tap
+WaitsWell img (Waits c left i hold tap) =
+    (mayWait (tree img i) left ≡ true) × Rooted img hold × Rooted img tap × (holdOf (tree img i) ≡ hold) × (tapOf (tree img i) ≡ tap)
 
 pub record Lawful (img : List ℕ) (l : Model) : Type 0 where
   pub few : length (l .states) ≤ 64
@@ -139,7 +142,7 @@ module _ (img : List ℕ) where
         let idle = with-waiting l Idle w tt in
         let may : mayWait (tree img i) (t - d) ≡ true = ap (λ (a : Action). mayWait a (t - d)) (r .0) ∙ le-leb (t - d) t (omega arith) in
         begins-lawful (verdict t d f) c (withWaiting (Waits c (t - d) i h p) l) (doAction p (layersOf img) c 0 f (withWaiting Idle l)) (doAction h (layersOf img) c 0 f (withWaiting Idle l))
-        (with-waiting l (Waits c (t - d) i h p) w (may, r .1, r .2))
+        (with-waiting l (Waits c (t - d) i h p) w (may, r .1, r .2, ap holdOf (r .0), ap tapOf (r .0)))
         (do-lawful p c 0 f (withWaiting Idle l) (r .2) idle)
         (do-lawful h c 0 f (withWaiting Idle l) (r .1) idle)
 
@@ -212,7 +215,7 @@ module _ (img : List ℕ) where
     ticked-lawful : (x : Waiting) (q : List Stacked) (l : Model) → WaitsWell img x → length q ≤ 16 → falling q ≡ true → Lawful img l → Lawful img (ticked (tableOf img) x q l .layout)
     unfolding ticked
     ticked-lawful (Waits c k i a b) q l h n f w =
-        wait-lawful (k - 1) (withWaiting (Waits c (k - 1) i a b) (withQueue q l)) (with-waiting (withQueue q l) (Waits c (k - 1) i a b) (with-queue l q w n f) (may-fewer (tree img i) k (h .0), h .1, h .2))
+        wait-lawful (k - 1) (withWaiting (Waits c (k - 1) i a b) (withQueue q l)) (with-waiting (withQueue q l) (Waits c (k - 1) i a b) (with-queue l q w n f) (may-fewer (tree img i) k (h .0), h .1, h .2, h .3, h .4))
     ticked-lawful Idle [] l h n f w = with-queue l [] w n f
     ticked-lawful Idle (s ∷ q) l h n f w = act-lawful (s .event) (s .since) (withQueue q l) (with-queue l q w (omega arith) (falling-rest s q f))
 

@@ -20,7 +20,7 @@ use Rattle.image.specs.declared.rules.Checked.the-variants.{Accepted}
 use Rattle.image.proofs.Accepted.{accepted}
 use Rattle.layout.specs.Model.{Model, Waiting, Idle, Waits, Done}
 use Rattle.layout.specs.Steps as step
-use Rattle.layout.specs.Packed.{noSlot, noStacked, waitingOf, waitingIn}
+use Rattle.layout.specs.Packed.{pad, noSlot, noStacked, waitingOf, waitingIn}
 use Rattle.layout.specs.Calls.{pack, unpack, legalState, legalSlot, waitingGood, unusedSlot, unusedStacked, stateGood, rule, judgedBy, judgedOf, layoutAfter}
 use Rattle.layout.specs.Reach.{Reached, new, event, tick}
 use Rattle.layout.specs.declared.run.State.{State}
@@ -57,11 +57,20 @@ no-events (suc n) = no-events n
 
 waits-well : (img : List ℕ) (w : Held) → Sound img → waitingGood img w ≡ true → WaitsWell img (waitingOf img w)
 waits-well img waiting.Nothing s h = tt
-waits-well img (waiting.On w) s h = (h, rooted-hold img (tree img (w .number)) (rooted img s (w .number)), rooted-tap img (tree img (w .number)) (rooted img s (w .number)))
+waits-well img (waiting.On w) s h = (h, rooted-hold img (tree img (w .number)) (rooted img s (w .number)), rooted-tap img (tree img (w .number)) (rooted img s (w .number)), refl, refl)
 
 well-waits : (img : List ℕ) (w : Waiting) → WaitsWell img w → waitingGood img (waitingIn w) ≡ true
 well-waits img Idle h = refl
 well-waits img (Waits c k i a b) h = h .0
+
+-- a state in its slot and out again, and what waits, looked up again
+slots-back : (l : List State) → map (λ (s : Slot). s .state) (map (λ (s : State). record { state = s }) l) ≡ l
+slots-back [] = refl
+slots-back (s ∷ l) = ap (λ (x : List State). s ∷ x) (slots-back l)
+
+well-back : (img : List ℕ) (w : Waiting) → WaitsWell img w → waitingOf img (waitingIn w) ≡ w
+well-back img Idle h = refl
+well-back img (Waits c k i a b) h = rw (h .3, h .4)
 
 -- a layout that State is not given for keeps its rules as lists, and back
 good-lawful : (img : List ℕ) (lay : Layout) → Sound img → stateGood img lay ≡ true → Lawful img (unpack img lay)
@@ -76,7 +85,7 @@ good-lawful img lay s e =
       waits = waits-well img (lay .waiting) s (g .waits);
     }
 
-lawful-good : (img : List ℕ) (l : Model) → Lawful img l → stateGood img (pack l) ≡ true
+pub lawful-good : (img : List ℕ) (l : Model) → Lawful img l → stateGood img (pack l) ≡ true
 unfolding stateGood
 lawful-good img l w =
     let slots : List Slot = map (λ (s : State). record { state = s }) (l .states) in
@@ -95,6 +104,16 @@ lawful-good img l w =
       drop-at (l .queue) (replicate (16 - length (l .queue)) noStacked) (length (l .queue)) refl,
     )
     (no-events (16 - length (l .queue)))
+
+-- packed and looked up again it is the same
+pub unpack-pack : (img : List ℕ) (l : Model) → Lawful img l → unpack img (pack l) ≡ l
+unpack-pack img l w =
+    let slots : List Slot = map (λ (s : State). record { state = s }) (l .states) in
+    let states : map (λ (s : Slot). s .state) (take (length (l .states)) (pad 64 noSlot slots)) ≡ l .states =
+    ap (map (λ (s : Slot). s .state)) (take-at slots (replicate (64 - length slots) noSlot) (length (l .states)) (length-map (l .states) _)) ∙ slots-back (l .states) in
+    let waits : waitingOf img (waitingIn (l .waiting)) ≡ l .waiting = well-back img (l .waiting) (w .waits) in
+    let queue : take (length (l .queue)) (pad 16 noStacked (l .queue)) ≡ l .queue = take-at (l .queue) (replicate (16 - length (l .queue)) noStacked) (length (l .queue)) refl in
+    λ i. record { base = l .base; states = states i; waiting = waits i; queue = queue i }
 
 -- a call leaves a layout that State is not given for, refused or not
 after-good : (img : List ℕ) (j : Judged) (done : Done) (lay : Layout) → stateGood img lay ≡ true → Lawful img (done .layout) → stateGood img (layoutAfter j done lay) ≡ true

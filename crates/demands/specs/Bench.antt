@@ -1,0 +1,170 @@
+-- The cases of document 01, "Bench cases", that are marked P: what goes in and what comes out, as data, and one statement
+-- over their list. What comes out is computed through the definitions that the public functions' contracts give.
+-- Assumes nothing.
+use Prim.Native.Nat.{ℕ, _*_}
+use mathlib.Core.Path.{_≡_}
+use mathlib.Core.List.{List, [], _∷_, _++_, map}
+use lib.ListN.{length, take, replicate}
+use Rattle.refusal.specs.Number.{numberOf}
+use Rattle.event.specs.declared.Coord.{Coord}
+use Rattle.event.specs.declared.Event.{Event}
+use Rattle.event.specs.declared.Event.the-variants.{Release, Press}
+use Rattle.codes.specs.Report.{reportOf}
+use Rattle.image.specs.Check.{checkOf, toldOf}
+use Rattle.debounce.specs.Calls.{makingVerdict, made, eventsVerdict, told as toldScan, buffered}
+use Rattle.debounce.specs.declared.Debouncer.{Debouncer}
+use Rattle.debounce.specs.declared.Verdict.{Verdict}
+use Rattle.debounce.specs.declared.Verdict.the-variants as verdict
+use Rattle.debounce.specs.declared.Telling.{Telling}
+use Rattle.debounce.specs.declared.Telling.the-variants as telling
+use Rattle.layout.specs.Model.{fresh}
+use Rattle.layout.specs.Packed.{actedIn, madeIn}
+use Rattle.layout.specs.Calls.{pack}
+use Rattle.layout.specs.declared.run.Way.{Way}
+use Rattle.layout.specs.declared.run.Way.the-variants.{Tap, Hold}
+use Rattle.demands.specs.Runs.{Call, Tick, Enter}
+use Rattle.demands.specs.Public.{Reply, replies, told, codesIn}
+use Rattle.demands.specs.Z.{z, lent}
+
+-- what goes in
+pub data Input : Type 0 where
+  -- an image, for its check
+  Check : List ℕ → Input
+  -- an image, and calls on a fresh layout over it, 64 bytes lent to them
+  Calls : List ℕ → List Call → Input
+  -- codes, for a report
+  Codes : List ℕ → Input
+  -- rows, columns, nb_bounce and start picture of a debouncer, and scans
+  Scans : ℕ → ℕ → ℕ → List ℕ → List (List ℕ) → Input
+
+-- all that an answer of the layout says: number, place, codes, the event acted on if any, the decisions
+pub record Says : Type 0 where
+  pub number : ℕ
+  pub place : ℕ
+  pub codes : List ℕ
+  pub acted : List Event
+  pub decided : List (Coord × Way)
+
+-- a scan's answer: its number, and the bytes of its events
+pub record Scanned : Type 0 where
+  pub number : ℕ
+  pub events : List ℕ
+
+-- what comes out
+pub data Output : Type 0 where
+  -- the number and the place of the check's answer
+  Found : ℕ → ℕ → Output
+  -- an answer for each call
+  Answers : List Says → Output
+  -- the report's bytes
+  Report : List ℕ → Output
+  -- the number of the making, and an answer for each scan
+  Bounced : ℕ → List Scanned → Output
+
+unfoldable pub says : Reply → Says
+says r =
+    record {
+      number = told r .number;
+      place = told r .place;
+      codes = codesIn r;
+      acted = actedIn (told r .notes .acted);
+      decided = madeIn (told r .notes);
+    }
+
+-- the debouncer's answers in the paper's numbers
+abbrev pub numberIn : Verdict → ℕ
+numberIn verdict.Fine = 0
+numberIn (verdict.Refused refusal) = numberOf refusal
+
+abbrev pub scannedAs : Telling → List ℕ → Scanned
+scannedAs (telling.Events count) buffer = record { number = 0; events = take (3 * count) buffer }
+scannedAs (telling.Refused refusal) buffer = record { number = numberOf refusal; events = [] }
+
+-- one scan after the other, one buffer lent to each, as the contract of `Debouncer::events` has it
+unfoldable pub scans : List (List ℕ) → Debouncer → List ℕ → List Scanned
+scans [] d buffer = []
+scans (scan ∷ rest) d buffer =
+    let v = eventsVerdict d scan (length buffer) in
+    let t = toldScan v d scan in
+    let after = buffered v d scan buffer in
+    scannedAs (t .telling) after ∷ scans rest (t .debouncer) after
+
+unfoldable pub outcome : Input → Output
+outcome (Check image) = let t = toldOf (checkOf image) in Found (t .number) (t .place)
+outcome (Calls image calls) = Answers (map says (replies image calls (pack fresh) lent))
+outcome (Codes codes) = Report (reportOf codes)
+outcome (Scans rows columns nb start list) =
+    let m = made (makingVerdict rows columns nb start) rows columns nb start in
+    Bounced (numberIn (m .verdict)) (scans list (m .debouncer) (replicate (3 * (rows * columns)) 0))
+
+pub record Case : Type 0 where
+  pub given : Input
+  pub gives : Output
+
+unfoldable pub Holds : Case → Type 0
+Holds c = outcome (c .given) ≡ c .gives
+
+unfoldable pub AllHold : List Case → Type 0
+AllHold [] = Unit
+AllHold (c ∷ cs) = Holds c × AllHold cs
+
+-- the coordinates of Z's HoldTap, and answers that refuse nothing
+abbrev pub origin : Coord
+origin = record { i = 0; j = 0 }
+
+abbrev pub nothing : Says
+nothing = record { number = 0; place = 0; codes = []; acted = []; decided = [] }
+
+abbrev pub acting : Event → List (Coord × Way) → List ℕ → Says
+acting e decided codes = record { number = 0; place = 0; codes = codes; acted = e ∷ []; decided = decided }
+
+abbrev pub deciding : List (Coord × Way) → List ℕ → Says
+deciding decided codes = record { number = 0; place = 0; codes = codes; acted = []; decided = decided }
+
+abbrev pub events : List ℕ → Scanned
+events bytes = record { number = 0; events = bytes }
+
+unfoldable pub cases : List Case
+cases =
+    -- Z is accepted; its first 51 bytes give 3; its first 15 give 1
+    record { given = Check z; gives = Found 0 0 }
+    ∷ record { given = Check (take 51 z); gives = Found 3 0 }
+    ∷ record { given = Check (take 15 z); gives = Found 1 0 }
+    -- Z, a press of (0,0), and three ticks
+    ∷ record {
+      given = Calls z (Enter (Press 0 0) ∷ Tick ∷ Tick ∷ Tick ∷ []);
+      gives = Answers (nothing ∷ acting (Press 0 0) [] [] ∷ nothing ∷ deciding ((origin, Hold) ∷ []) (0xE0 ∷ []) ∷ []);
+    }
+    -- Z, a press of (0,0) and its release, and two ticks
+    ∷ record {
+      given = Calls z (Enter (Press 0 0) ∷ Enter (Release 0 0) ∷ Tick ∷ Tick ∷ []);
+      gives = Answers (nothing ∷ nothing ∷ acting (Press 0 0) ((origin, Tap) ∷ []) (0x2C ∷ []) ∷ acting (Release 0 0) [] [] ∷ []);
+    }
+    -- codes 04..09, and with 0A and E1
+    ∷ record {
+      given = Codes (0x04 ∷ 0x05 ∷ 0x06 ∷ 0x07 ∷ 0x08 ∷ 0x09 ∷ []);
+      gives = Report (0x00 ∷ 0x00 ∷ 0x04 ∷ 0x05 ∷ 0x06 ∷ 0x07 ∷ 0x08 ∷ 0x09 ∷ []);
+    }
+    ∷ record {
+      given = Codes (0x04 ∷ 0x05 ∷ 0x06 ∷ 0x07 ∷ 0x08 ∷ 0x09 ∷ 0x0A ∷ 0xE1 ∷ []);
+      gives = Report (0x02 ∷ 0x00 ∷ 0x01 ∷ 0x01 ∷ 0x01 ∷ 0x01 ∷ 0x01 ∷ 0x01 ∷ []);
+    }
+    -- codes 04, 02, and then 05
+    ∷ record { given = Codes (0x04 ∷ 0x02 ∷ []); gives = Report (0 ∷ 0 ∷ 2 ∷ 2 ∷ 2 ∷ 2 ∷ 2 ∷ 2 ∷ []) }
+    ∷ record { given = Codes (0x04 ∷ 0x02 ∷ 0x05 ∷ []); gives = Report (0 ∷ 0 ∷ 1 ∷ 1 ∷ 1 ∷ 1 ∷ 1 ∷ 1 ∷ []) }
+    -- nb_bounce 2 and nb_bounce 0: one switch, which is up and then down
+    ∷ record {
+      given = Scans 1 1 2 (0 ∷ []) ((1 ∷ []) ∷ (1 ∷ []) ∷ (1 ∷ []) ∷ []);
+      gives = Bounced 0 (events [] ∷ events [] ∷ events (1 ∷ 0 ∷ 0 ∷ []) ∷ []);
+    }
+    ∷ record { given = Scans 1 1 0 (0 ∷ []) ((1 ∷ []) ∷ []); gives = Bounced 0 (events (1 ∷ 0 ∷ 0 ∷ []) ∷ []) }
+    -- Z, seventeen presses of (0,1)
+    ∷ record {
+      given = Calls z (replicate 17 (Enter (Press 0 1)));
+      gives = Answers (replicate 16 nothing ++ (acting (Press 0 1) [] (0x2C ∷ []) ∷ []));
+    }
+    ∷ []
+
+-- every one of them holds
+unfoldable pub Bench : Type 0
+Bench = AllHold cases
