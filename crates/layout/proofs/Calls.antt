@@ -11,15 +11,16 @@ use Rattle.refusal.specs.declared.Refusal.{Refusal}
 use Rattle.image.specs.Words.{layersOf}
 use Rattle.image.specs.Check.{checkOf}
 use Rattle.image.specs.Sound.{Sound}
+use Rattle.image.specs.Table.{tableOf}
 use Rattle.image.specs.declared.words.Shape.{Shape}
 use Rattle.image.specs.declared.rules.Checked.{Checked}
 use Rattle.image.specs.declared.rules.Checked.the-variants as checked
 use Rattle.image.proofs.Accepted.{accepted}
-use Rattle.layout.specs.Model.{Model, Done}
-use Rattle.layout.specs.Steps.{codes}
+use Rattle.layout.specs.Model.{Model, Idle, Done, still}
+use Rattle.layout.specs.Steps.{codes, tick}
 use Rattle.layout.specs.Packed.{pad, laid, noSlot, noStacked, statesIn, waitingOf, waitingIn, noNotes, noted}
-use Rattle.layout.specs.Calls.{pack, stateGood, rule, judgedBy, judgedOf, answerOf, layoutAfter, answered, buffered}
-use Rattle.layout.specs.Parts.{partsOf, layoutOf}
+use Rattle.layout.specs.Calls.{pack, unpack, stateGood, rule, judgedBy, judgedOf, answerOf, layoutAfter, answered, buffered}
+use Rattle.layout.specs.Parts.{partsOf, layoutOf, isIdle}
 use Rattle.layout.specs.Inside.{Fit, Went, layoutIn}
 use Rattle.layout.specs.declared.run.State.{State}
 use Rattle.layout.specs.declared.run.Slot.{Slot}
@@ -35,6 +36,7 @@ use Rattle.layout.specs.declared.layout.Answer.the-variants as answer
 use Rattle.layout.specs.declared.layout.Answered.{Answered}
 use Rattle.layout.proofs.Runs.{held-length, list-length}
 use Rattle.layout.proofs.States.{legal, legal-fit}
+use Rattle.layout.proofs.Moves.{went-as, went-nothing, tick-idle}
 
 -- what a call that is not refused finds
 pub record Ready (img : List ℕ) (lay : Layout) (room n : ℕ) : Type 0 where
@@ -65,6 +67,17 @@ ready img lay room n e = fine-by (checkOf img) img lay room n refl e
 
 pub ready-fit : (img : List ℕ) (lay : Layout) (room n : ℕ) (parts : Parts) → Ready img lay room n → length (lay .states) ≡ 64 → length (lay .stacked) ≡ 16 → parts ≡ partsOf lay → Fit parts
 ready-fit img lay room n parts y e f p = subst Fit (sym p) (legal-fit img lay (legal img lay (y .state)) e f)
+
+idle-waits : (img : List ℕ) (w : Waiting) → isIdle w ≡ true → waitingOf img w ≡ Idle
+idle-waits img waiting.Nothing e = refl
+idle-waits img (waiting.On w) e = cc
+
+-- a tick of a layout at which nothing waits and nothing is queued leaves it as it is
+pub went-idle : (img : List ℕ) (lay : Layout) (start : Parts) → start ≡ partsOf lay → Fit start → isIdle (lay .waiting) ≡ true → lay .queued ≡ 0
+    → Went img start start (tick (tableOf img) (unpack img lay))
+went-idle img lay start p f idle none =
+    went-as img (went-nothing img start f)
+    (ap (λ (x : Parts). still (layoutIn img x)) p ∙ sym (tick-idle (tableOf img) (unpack img lay) (idle-waits img (lay .waiting) idle) (ap (λ (n : ℕ). take n (lay .stacked)) none)))
 
 map-slots : (l : List Slot) → map (λ (s : State). record { state = s }) (map (λ (s : Slot). s .state) l) ≡ l
 map-slots [] = refl

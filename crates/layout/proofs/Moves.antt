@@ -102,6 +102,12 @@ module _ (T : Table) (l : Model) where
       go [] h = refl
       go (s ∷ q) h = absurd (omega arith)
 
+  -- nothing waits and nothing is queued, so nothing happens
+  pub tick-idle : l .waiting ≡ Idle → l .queue ≡ [] → tick T l ≡ still l
+  unfolding tick ticked
+  tick-idle e z =
+      ap (λ (w : Waiting). ticked T w (older (l .queue)) l) e ∙ ap (λ (q : List Stacked). ticked T Idle (older q) l) z ∙ ap (λ (q : List Stacked). still (withQueue q l)) (sym z)
+
   pub tick-some : l .waiting ≡ Idle → 0 < length (older (l .queue)) → (d : Stacked)
       → tick T l ≡ act T (getD (older (l .queue)) 0 d .event) (getD (older (l .queue)) 0 d .since) (withQueue (drop 1 (older (l .queue))) l)
   unfolding tick ticked

@@ -27,7 +27,7 @@ ghost use Rattle.layout.specs.Model.{fresh, still};
 ghost use Rattle.layout.specs.Steps.{codes as codesOf, event as eventOf, tick as tickOf};
 ghost use Rattle.layout.specs.Packed.{laid, statesIn};
 ghost use Rattle.layout.specs.Calls.{pack, unpack, judgedOf, answerOf, answered, buffered, toldOf};
-ghost use Rattle.layout.specs.Parts.{partsOf, layoutOf, judgedAs, refusedAs};
+ghost use Rattle.layout.specs.Parts.{partsOf, layoutOf, judgedAs, refusedAs, isIdle};
 ghost use Rattle.layout.specs.Inside.{Fit};
 
 // The default layer, the states held, what waits, and the queued events, the oldest first. Places past a count are zero.
@@ -165,6 +165,16 @@ fn answer_of(parts: Parts, out: &mut [u8]) -> Answered
     }
 }
 
+// Whether nothing waits.
+fn is_idle(waiting: Waiting) -> bool
+    ensures { λ r. ⌜ r ≡ isIdle waiting ⌝ }
+{
+    match waiting {
+        Waiting::Nothing => true,
+        Waiting::On(_) => false,
+    }
+}
+
 impl Answer {
     // The paper's number, place and values.
     pub fn told(self) -> Told
@@ -241,6 +251,10 @@ impl Layout {
                 layout: self,
             };
         };
+        let waiting = self.waiting;
+        if self.queued == 0 && is_idle(waiting) {
+            return answer_of(parts_of(self), out);
+        }
         answer_of(ticked(image, layers, parts_of(self)), out)
     }
 

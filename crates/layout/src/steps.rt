@@ -34,7 +34,7 @@ ghost use Rattle.image.specs.Sound.{Sound};
 ghost use Rattle.image.specs.Table.{treeIn, tableOf};
 ghost use Rattle.layout.specs.Model as Model;
 ghost use Rattle.layout.specs.Model.{still, marked};
-ghost use Rattle.layout.specs.Steps.{pressed, act, into, released as releasedOf, entered, event as eventOf, tick as tickOf};
+ghost use Rattle.layout.specs.Steps.{pressed, act, into, releases, released as releasedOf, entered, event as eventOf, tick as tickOf};
 ghost use Rattle.layout.specs.Packed.{listIn, waitingOf, modelOf};
 ghost use Rattle.layout.specs.Inside.{Tidy, Lined, Does, Did, Fit, Went, layoutIn};
 ghost use Rattle.layout.specs.declared.queue.Stacked.{Stacked as Queued};
@@ -198,11 +198,31 @@ fn tap_released(image: &[u8], layers: usize, parts: Parts, event: Event) -> Part
     }
 }
 
-// A key event.
+// Whether the event releases the key that waits.
+fn releases_waiting(waiting: Waiting, event: Event) -> bool
+    ensures { λ r. ⌜ ((img : List ℕ) → r ≡ releases event (waitingOf img waiting)) ⌝ }
+{
+    let Waiting::On(w) = waiting else {
+        return false;
+    };
+    let coord = w.coord;
+    is_release(event, coord)
+}
+
+// A key event. Most are only queued: that is said apart, since both steps below copy the states.
 pub(crate) fn evented(image: &[u8], layers: usize, parts: Parts, event: Event) -> Parts
     requires { ⌜ Sound (now image) × Fit parts × (layers ≡ layersOf (now image)) ⌝ }
     ensures { λ r. ⌜ Went (now (image .entry)) parts r (eventOf (tableOf (now (image .entry))) event (layoutIn (now (image .entry)) parts)) ⌝ }
 {
+    let run = parts.run;
+    let queue = parts.queue;
+    let waiting = run.waiting;
+    if queue.queued < Layout::QUEUE && !releases_waiting(waiting, event) {
+        return Parts {
+            run,
+            queue: append(queue, event),
+        };
+    }
     tap_released(image, layers, enter(image, layers, parts, event), event)
 }
 

@@ -1,5 +1,5 @@
-// What the script has made so far, as words in a lent buffer: a record of it by value would be handed through every line's
-// function, and the check pays for each. A word past the buffer's end reads as 0 and is not written.
+// What the script has made so far, as words in a lent buffer: a record of it by value would go through every line's
+// function. A word past the buffer's end reads as 0 and is not written.
 // Assumes nothing.
 use super::words;
 use layout::Layout;

@@ -70,11 +70,11 @@ impl Keys {
     }
 }
 
-fn codes_text(codes: &[u8]) -> String {
+pub fn codes_text(codes: &[u8]) -> String {
     format!("codes {}", words::to_hex(codes))
 }
 
-fn rust_codes(layout: &mut rust::Layout, call: Call) -> String {
+pub fn rust_codes(layout: &mut rust::Layout, call: Call) -> String {
     codes_text(&match call {
         Call::Event(Event::Press((i, j))) => codes::bytes(layout.event(rust::Event::Press(i, j))),
         Call::Event(Event::Release((i, j))) => {

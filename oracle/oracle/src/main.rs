@@ -7,6 +7,7 @@ mod both;
 mod codes;
 mod compare;
 mod debouncer;
+mod drains;
 mod generate;
 mod guard;
 mod keyboard;
@@ -27,7 +28,8 @@ usage: oracle replay                             answer the script on standard i
        oracle generate KIND COUNT SEED           print a script; KIND is: codes, image, areas,
                                                  debounce, layout, states, keyboard
        oracle compare-names FILE..               hold the constants in these .rt files to the names
-       oracle compare KIND N SEED -- COMMAND..   hold COMMAND's answers to the oracle's";
+       oracle compare KIND N SEED -- COMMAND..   hold COMMAND's answers to the oracle's
+       oracle drains N SEED                      drain N layouts and hold each to demand 3";
 
 fn main() -> ExitCode {
     let args: Vec<String> = std::env::args().skip(1).collect();
@@ -40,6 +42,7 @@ fn main() -> ExitCode {
         ["compare", kind, n, seed, "--", command @ ..] if !command.is_empty() => {
             return run_compare(kind, n, seed, command)
         }
+        ["drains", n, seed] => return run_drains(n, seed),
         _ => return usage(),
     };
     match done {
@@ -80,5 +83,12 @@ fn run_compare(kind: &str, n: &str, seed: &str, command: &[&str]) -> ExitCode {
     match generate::kind(kind, count, number) {
         Some(mut scripts) => compare::run(kind, number, scripts.as_mut(), command),
         None => usage(),
+    }
+}
+
+fn run_drains(n: &str, seed: &str) -> ExitCode {
+    match (n.parse(), seed.parse()) {
+        (Ok(count), Ok(number)) => drains::run(count, number),
+        _ => usage(),
     }
 }

@@ -9,6 +9,7 @@ pub mod codes;
 mod damage;
 mod debounce;
 mod draft;
+pub mod drains;
 mod grow;
 mod image;
 mod keyboard;

@@ -7,12 +7,25 @@ use super::image::{self, Parts, Refusal};
 use super::layout::{Event, Layout, Mark, MOST_STATES};
 use super::state::Held;
 use super::{ROOM, STATE};
+use std::fmt;
 
 #[derive(Clone, Copy, Debug, PartialEq)]
 pub enum Call {
     Event(Event),
     Tick,
     Keycodes,
+}
+
+impl fmt::Display for Call {
+    /// As a script has it.
+    fn fmt(&self, f: &mut fmt::Formatter) -> fmt::Result {
+        match self {
+            Call::Event(Event::Press((i, j))) => write!(f, "p {i} {j}"),
+            Call::Event(Event::Release((i, j))) => write!(f, "r {i} {j}"),
+            Call::Tick => write!(f, "t"),
+            Call::Keycodes => write!(f, "k"),
+        }
+    }
 }
 
 /// What calls are given: an image, a layout and the length of the code buffer.

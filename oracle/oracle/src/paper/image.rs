@@ -256,7 +256,7 @@ impl Parts {
     }
 
     /// The records that a record names, repeated ones each time; of a HoldTap hold and tap.
-    fn named(&self, place: usize) -> &[u16] {
+    pub fn named(&self, place: usize) -> &[u16] {
         match self.kind(place) {
             4 => self.entries(place),
             7 => &self.records[place][2..],

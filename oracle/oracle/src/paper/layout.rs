@@ -306,30 +306,8 @@ mod tests {
     use super::*;
     use crate::generate::lively_image;
     use crate::paper::image::{check, Z};
+    use crate::paper::marks::{acted, pending};
     use crate::random::Random;
-
-    fn acted(marks: &[Mark]) -> Vec<Event> {
-        let acted = |mark: &Mark| match *mark {
-            Mark::Acted(event) => Some(event),
-            _ => None,
-        };
-        marks.iter().filter_map(acted).collect()
-    }
-
-    /// Each hold-tap begun is decided once, and before any later event is acted on; what is not decided at
-    /// the end is waiting.
-    fn check_decisions(marks: &[Mark], layout: &Layout) {
-        let mut begun: Option<Coord> = None;
-        for mark in marks {
-            match *mark {
-                Mark::Begun { at, .. } => assert_eq!(begun.replace(at), None),
-                Mark::Decided { at, .. } => assert_eq!(begun.take(), Some(at)),
-                Mark::Acted(_) => assert_eq!(begun, None),
-                _ => (),
-            }
-        }
-        assert_eq!(begun, layout.waiting.map(|waiting| waiting.at));
-    }
 
     fn decisions(marks: &[Mark]) -> usize {
         let decided = |mark: &&Mark| matches!(mark, Mark::Decided { .. });
@@ -365,7 +343,8 @@ mod tests {
         let queued = layout.queue.iter().map(|queued| queued.event);
         let all: Vec<Event> = acted(&marks).into_iter().chain(queued).collect();
         assert_eq!(all, arrived);
-        check_decisions(&marks, &layout);
+        let waits = layout.waiting.map(|waiting| waiting.at);
+        assert_eq!(pending(&marks), Ok(waits));
         twice
     }
 

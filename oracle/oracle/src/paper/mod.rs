@@ -7,8 +7,10 @@ pub mod debounce;
 pub mod idle;
 pub mod image;
 pub mod layout;
+pub mod marks;
 pub mod report;
 pub mod state;
+pub mod times;
 
 /// The refusals that calls on a debouncer and on a layout share.
 pub const ROOM: u8 = 12;

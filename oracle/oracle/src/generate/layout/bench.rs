@@ -27,7 +27,7 @@ impl Case {
     }
 }
 
-fn z_with_timeout(timeout: u8) -> [u8; 52] {
+pub fn z_with_timeout(timeout: u8) -> [u8; 52] {
     let mut image = Z;
     image[46] = timeout;
     image

@@ -3,7 +3,7 @@
 //!
 //! Assumes: the longest waits take some 65,000 ticks each, so they are in comparisons of some size only.
 
-mod bench;
+pub mod bench;
 mod counts;
 mod moves;
 pub mod pen;

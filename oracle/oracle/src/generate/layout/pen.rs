@@ -92,23 +92,21 @@ impl Pen {
         if !self.down.insert(at) {
             self.counts.add(Situation::PressedTwice);
         }
-        let (i, j) = at;
-        self.call(Call::Event(Event::Press(at)), &format!("p {i} {j}"))
+        self.call(Call::Event(Event::Press(at)))
     }
 
     pub fn release(&mut self, at: Coord) -> u8 {
         if !self.down.remove(&at) {
             self.counts.add(Situation::ReleasedUp);
         }
-        let (i, j) = at;
-        self.call(Call::Event(Event::Release(at)), &format!("r {i} {j}"))
+        self.call(Call::Event(Event::Release(at)))
     }
 
     pub fn tick(&mut self) -> u8 {
         if self.waiting().is_some() {
             self.waited += 1;
         }
-        self.call(Call::Tick, "t")
+        self.call(Call::Tick)
     }
 
     pub fn ticks(&mut self, count: usize) {
@@ -118,12 +116,12 @@ impl Pen {
     }
 
     pub fn keycodes(&mut self) -> u8 {
-        self.call(Call::Keycodes, "k")
+        self.call(Call::Keycodes)
     }
 
     /// 0, or the refusal's number.
-    fn call(&mut self, call: Call, line: &str) -> u8 {
-        self.write(line);
+    fn call(&mut self, call: Call) -> u8 {
+        self.write(&call.to_string());
         match self.given.call(call) {
             Ok(marks) => {
                 self.counts.add_call(&marks);

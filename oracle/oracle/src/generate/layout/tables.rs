@@ -34,6 +34,20 @@ fn quickened(random: &mut Random, reach: Reach) -> Draft {
     draft
 }
 
+/// A table whose hold-taps have timeouts of these.
+pub fn timed(random: &mut Random, timeouts: &[u16]) -> Draft {
+    let mut draft = match random.once_in(20) {
+        true => accepted(random, Reach::Small),
+        false => lively(random),
+    };
+    for record in &mut draft.records {
+        if record[0] == HOLD_TAP {
+            record[1] = random.pick(timeouts);
+        }
+    }
+    draft
+}
+
 /// A table that has much of everything.
 pub fn lively(random: &mut Random) -> Draft {
     let layers = random.pick(&[1, 2, 2, 2, 3, 3, 4, 8]);
