@@ -44,30 +44,28 @@ fn answer_codes(word: &[u8], scratch: &mut [u8], out: &mut [u8], waiting: usize)
 
 // The lines that set a part of the layout, or a buffer's length, by their commands; all others cannot be read.
 fn answer_part(line: &[u8], w: Words, desk: &mut [u16], out: &mut [u8], waiting: usize) -> usize {
-    let command = words::word(line, w, 0);
-    let count = w.count;
-    if count == 6 && words::is(command, b"state") {
+    if words::asks(line, w, 6, b"state") {
         return parts::state(line, w, desk, out, waiting);
     }
-    if count == 6 && words::is(command, b"queue") {
+    if words::asks(line, w, 6, b"queue") {
         return parts::queue(line, w, desk, out, waiting);
     }
-    if count == 3 && words::is(command, b"counts") {
+    if words::asks(line, w, 3, b"counts") {
         return parts::counts(line, w, desk, out, waiting);
     }
-    if count == 5 && words::is(command, b"wait") {
+    if words::asks(line, w, 5, b"wait") {
         return parts::wait(line, w, desk, out, waiting);
     }
-    if count == 1 && words::is(command, b"idle") {
+    if words::asks(line, w, 1, b"idle") {
         return parts::idle(line, desk, out, waiting);
     }
-    if count == 2 && words::is(command, b"default") {
+    if words::asks(line, w, 2, b"default") {
         return parts::one(line, w, desk::DEFAULT, desk, out, waiting);
     }
-    if count == 2 && words::is(command, b"room") {
+    if words::asks(line, w, 2, b"room") {
         return parts::one(line, w, desk::ROOM, desk, out, waiting);
     }
-    if count == 2 && words::is(command, b"space") {
+    if words::asks(line, w, 2, b"space") {
         return parts::one(line, w, desk::SPACE, desk, out, waiting);
     }
     out::unread(out, waiting)
@@ -82,27 +80,25 @@ fn answer_board(
     out: &mut [u8],
     waiting: usize,
 ) -> usize {
-    let command = words::word(line, w, 0);
-    let count = w.count;
-    if count == 2 && words::is(command, b"report") {
+    if words::asks(line, w, 2, b"report") {
         return board::report(line, w, scratch, desk, out, waiting);
     }
-    if count == 3 && words::is(command, b"get") {
+    if words::asks(line, w, 3, b"get") {
         return board::get(line, w, desk, out, waiting);
     }
-    if count == 4 && words::is(command, b"set") {
+    if words::asks(line, w, 4, b"set") {
         return board::set(line, w, scratch, desk, out, waiting);
     }
-    if count == 2 && words::is(command, b"rate") {
+    if words::asks(line, w, 2, b"rate") {
         return board::rate(line, w, desk, out, waiting);
     }
-    if count == 3 && words::is(command, b"idling") {
+    if words::asks(line, w, 3, b"idling") {
         return board::idling(line, w, desk, out, waiting);
     }
-    if count == 2 && words::is(command, b"clock") {
+    if words::asks(line, w, 2, b"clock") {
         return board::clock(line, w, desk, out, waiting);
     }
-    if count == 1 && words::is(command, b"descriptor") {
+    if words::asks(line, w, 1, b"descriptor") {
         return board::descriptor(out, waiting);
     }
     answer_part(line, w, desk, out, waiting)
@@ -117,21 +113,19 @@ fn answer_bounce(
     out: &mut [u8],
     waiting: usize,
 ) -> usize {
-    let command = words::word(line, w, 0);
-    let count = w.count;
-    if count == 2 && words::is(command, b"scan") {
+    if words::asks(line, w, 2, b"scan") {
         return bounce::scan(line, w, scratch, desk, out, waiting);
     }
-    if count == 2 && words::is(command, b"update") {
+    if words::asks(line, w, 2, b"update") {
         return bounce::update(line, w, scratch, desk, out, waiting);
     }
-    if count == 1 && words::is(command, b"picture") {
+    if words::asks(line, w, 1, b"picture") {
         return bounce::picture(desk, out, waiting);
     }
-    if count == 5 && words::is(command, b"debounce") {
+    if words::asks(line, w, 5, b"debounce") {
         return bounce::debounce(line, w, scratch, desk, out, waiting);
     }
-    if count == 7 && words::is(command, b"debouncer") {
+    if words::asks(line, w, 7, b"debouncer") {
         return bounce::debouncer(line, w, scratch, desk, out, waiting);
     }
     answer_board(line, w, scratch, desk, out, waiting)
@@ -147,15 +141,13 @@ fn answer_table(
     out: &mut [u8],
     waiting: usize,
 ) -> usize {
-    let command = words::word(line, w, 0);
-    let count = w.count;
-    if count == 2 && words::is(command, b"codes") {
+    if words::asks(line, w, 2, b"codes") {
         return answer_codes(words::word(line, w, 1), scratch, out, waiting);
     }
-    if count == 2 && words::is(command, b"image") {
+    if words::asks(line, w, 2, b"image") {
         return table::image(line, w, scratch, table, desk, out, waiting);
     }
-    if count == 3 && words::is(command, b"areas") {
+    if words::asks(line, w, 3, b"areas") {
         return table::areas(line, w, scratch, out, waiting);
     }
     answer_bounce(line, w, scratch, desk, out, waiting)
@@ -170,18 +162,16 @@ fn answer_call(
     out: &mut [u8],
     waiting: usize,
 ) -> usize {
-    let command = words::word(line, w, 0);
-    let count = w.count;
-    if count == 1 && words::is(command, b"t") {
+    if words::asks(line, w, 1, b"t") {
         return keys::ask(image, Call::Tick, desk, out, waiting);
     }
-    if count == 3 && words::is(command, b"p") {
+    if words::asks(line, w, 3, b"p") {
         return keys::event(line, w, true, image, desk, out, waiting);
     }
-    if count == 3 && words::is(command, b"r") {
+    if words::asks(line, w, 3, b"r") {
         return keys::event(line, w, false, image, desk, out, waiting);
     }
-    if count == 1 && words::is(command, b"k") {
+    if words::asks(line, w, 1, b"k") {
         return keys::ask(image, Call::Keycodes, desk, out, waiting);
     }
     out::unread(out, waiting)

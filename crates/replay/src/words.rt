@@ -92,6 +92,14 @@ pub fn is(word: &[u8], other: &[u8]) -> bool {
     true
 }
 
+// Whether a line is this command, with so many words in all.
+pub fn asks(line: &[u8], words: Words, count: usize, command: &[u8]) -> bool {
+    if words.count != count {
+        return false;
+    }
+    is(word(line, words, 0), command)
+}
+
 // The byte that two hex digits spell.
 enum Pair {
     Byte(u8),
