@@ -48,8 +48,10 @@ impl Trees {
         let cells: Vec<Action> = cells.collect();
         let mut layers = Vec::new();
         for layer in cells.chunks(parts.rows * parts.columns) {
-            let rows = layer.chunks(parts.columns);
-            let rows: Vec<&'static [Action]> = rows.map(|row| self.keep(row.to_vec())).collect();
+            let rows = layer.chunks(parts.columns).enumerate();
+            let rows: Vec<&'static [Action]> = rows
+                .map(|(number, row)| self.keep(ragged(row, number + layers.len()).to_vec()))
+                .collect();
             layers.push(self.keep(rows));
         }
         self.keep(layers)
@@ -94,6 +96,17 @@ impl Trees {
     }
 }
 
+/// Every other row without the NoOps at its end: the Rust's layers may be ragged, and an image is filled up.
+fn ragged(row: &[Action], number: usize) -> &[Action] {
+    let is_kept = |action: &Action| !matches!(action, Action::NoOp);
+    let kept = row.iter().rposition(is_kept).map_or(0, |last| last + 1);
+    if number % 2 == 0 {
+        row
+    } else {
+        &row[..kept]
+    }
+}
+
 fn code(word: u16) -> KeyCode {
     let byte = u8::try_from(word).expect("an accepted image has legal codes");
     codes::key_code(byte).expect("an accepted image has legal codes")
@@ -121,6 +134,13 @@ mod tests {
             }
         }
         answers
+    }
+
+    #[test]
+    fn every_other_row_is_ragged() {
+        let row = [Action::NoOp, Action::Trans, Action::NoOp, Action::NoOp];
+        assert_eq!([ragged(&row, 0).len(), ragged(&row, 1).len()], [4, 2]);
+        assert_eq!(ragged(&row[2..], 1).len(), 0);
     }
 
     #[test]
