@@ -10,3 +10,4 @@ pub mod Replies
 pub mod Demand3
 pub mod Reached
 pub mod Bench
+pub mod Ties

@@ -8,3 +8,4 @@ pub mod Demand3
 pub mod Z
 pub mod Reached
 pub mod Bench
+pub mod Ties
