@@ -2,4 +2,5 @@ pub mod Laws
 pub mod EventLaws
 pub mod States
 pub mod Runs
+pub mod Settles
 pub mod Unique

@@ -5,6 +5,9 @@ use Rattle.debounce.proofs.Debouncer.new as N
 use Rattle.debounce.proofs.Debouncer.get as G
 use Rattle.debounce.proofs.Debouncer.update as U
 use Rattle.debounce.proofs.Debouncer.events as E
+use Rattle.debounce.proofs.Verdict.number as W
+use Rattle.debounce.proofs.Update.told as C
+use Rattle.debounce.proofs.Telling.told as T
 
 pub new : Decides N.ended (λ M. N.spec) (λ M. N.clauses)
 new M 𝓤 H A m r = record { same = refl; free = λ κs a g. refl; only = λ κs a g g′ x x′ ws ws′. both 𝓤 _ _ _ (λ p q. (p ∙ sym q, refl)) }
@@ -17,3 +20,12 @@ update M 𝓤 H A m r = record { same = refl; free = λ κs a g. refl; only = λ
 
 pub events : Decides E.ended (λ M. E.spec) (λ M. E.clauses)
 events M 𝓤 H A m r = record { same = refl; free = λ κs a g. refl; only = λ κs a g g′ x x′ ws ws′. both 𝓤 _ _ _ (λ p q. (p .0 ∙ sym (q .0), ap (λ w. (tt, (tt, (w, tt)))) (p .1 ∙ sym (q .1)))) }
+
+pub number : Decides W.ended (λ M. W.spec) (λ M. W.clauses)
+number M 𝓤 H A m r = record { same = refl; free = λ κs a g. refl; only = λ κs a g g′ x x′ ws ws′. both 𝓤 _ _ _ (λ p q. (p ∙ sym q, refl)) }
+
+pub change : Decides C.ended (λ M. C.spec) (λ M. C.clauses)
+change M 𝓤 H A m r = record { same = refl; free = λ κs a g. refl; only = λ κs a g g′ x x′ ws ws′. both 𝓤 _ _ _ (λ p q. (p ∙ sym q, refl)) }
+
+pub count : Decides T.ended (λ M. T.spec) (λ M. T.clauses)
+count M 𝓤 H A m r = record { same = refl; free = λ κs a g. refl; only = λ κs a g g′ x x′ ws ws′. both 𝓤 _ _ _ (λ p q. (p ∙ sym q, refl)) }

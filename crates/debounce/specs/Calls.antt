@@ -5,6 +5,7 @@ use mathlib.Core.Bool.{Bool, true, false, cond, _&&_}
 use mathlib.Core.List.{List, [], _++_}
 use lib.Dec.{leb, ltb}
 use lib.ListN.{length, take, drop, replicate}
+use Rattle.refusal.specs.Number.{numberOf}
 use Rattle.refusal.specs.declared.Refusal.{Refusal}
 use Rattle.refusal.specs.declared.Refusal.the-variants.{Scan, Bounce, Room, State}
 use Rattle.event.specs.declared.Event.{Event}
@@ -17,10 +18,14 @@ use Rattle.debounce.specs.declared.Verdict.{Verdict}
 use Rattle.debounce.specs.declared.Verdict.the-variants as verdict
 use Rattle.debounce.specs.declared.Made.{Made}
 use Rattle.debounce.specs.declared.Got.{Got}
+use Rattle.debounce.specs.declared.Update.{Update}
 use Rattle.debounce.specs.declared.Update.the-variants as update
 use Rattle.debounce.specs.declared.Updated.{Updated}
+use Rattle.debounce.specs.declared.Telling.{Telling}
 use Rattle.debounce.specs.declared.Telling.the-variants as telling
 use Rattle.debounce.specs.declared.Told.{Told}
+use Rattle.debounce.specs.declared.Change.{Change}
+use Rattle.debounce.specs.declared.Count.{Count}
 
 -- the number of switches
 abbrev pub switches : Debouncer → ℕ
@@ -112,3 +117,17 @@ laid bytes buffer = bytes ++ drop (length bytes) buffer
 unfoldable pub buffered : Verdict → Debouncer → List ℕ → List ℕ → List ℕ
 buffered verdict.Fine d scan buffer = laid (written (eventsOf d (stepOf d scan))) buffer
 buffered (verdict.Refused refusal) d scan buffer = buffer
+
+-- the paper's number of a verdict, and the number and value of the other two answers: 0 where nothing is refused; a refused
+-- change is no, and a refused count 0
+abbrev pub numberIn : Verdict → ℕ
+numberIn verdict.Fine = 0
+numberIn (verdict.Refused refusal) = numberOf refusal
+
+abbrev pub changeOf : Update → Change
+changeOf (update.Changed said) = record { number = 0; changed = said }
+changeOf (update.Refused refusal) = record { number = numberOf refusal; changed = false }
+
+abbrev pub countOf : Telling → Count
+countOf (telling.Events count) = record { number = 0; count = count }
+countOf (telling.Refused refusal) = record { number = numberOf refusal; count = 0 }

@@ -3,3 +3,4 @@ pub mod Step
 pub mod Events
 pub mod Calls
 pub mod Inside
+pub mod Settles

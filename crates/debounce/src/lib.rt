@@ -14,7 +14,7 @@ ghost use Rattle.event.specs.Bytes.{bytesOf};
 ghost use Rattle.debounce.specs.Picture.{padded, binary, unused, isPicture, isScan};
 ghost use Rattle.debounce.specs.Events.{eventAt, changeAt, changes, written};
 ghost use Rattle.debounce.specs.Step as bounce;
-ghost use Rattle.debounce.specs.Calls.{sizesGood, bounceGood, stateGood, switches, makingVerdict, getVerdict, updateVerdict, eventsVerdict, bounceOf, withBounce, made, got, updated, told, laid, buffered};
+ghost use Rattle.debounce.specs.Calls.{sizesGood, bounceGood, stateGood, switches, makingVerdict, getVerdict, updateVerdict, eventsVerdict, bounceOf, withBounce, made, got, updated, told, laid, buffered, numberIn, changeOf, countOf};
 ghost use Rattle.debounce.specs.Inside.{stepOut, eventsIn};
 
 // The accepted picture, the candidate, for how many scans the candidate has stood, and the size. A switch that is down is
@@ -63,6 +63,64 @@ pub enum Telling {
 pub struct Told {
     pub telling: Telling,
     pub debouncer: Debouncer,
+}
+
+// The number of an update's answer, as document 01 counts refusals, and its value: 0 where nothing is refused, and no
+// change where something is.
+pub struct Change {
+    pub number: u8,
+    pub changed: bool,
+}
+
+// The same of a telling: no events where it is refused.
+pub struct Count {
+    pub number: u8,
+    pub count: usize,
+}
+
+impl Verdict {
+    // The paper's number, for programs that print it: 0 where nothing is refused.
+    pub fn number(self) -> u8
+        ensures { λ r. ⌜ r ≡ numberIn self ⌝ }
+    {
+        match self {
+            Verdict::Fine => 0,
+            Verdict::Refused(refusal) => refusal.number(),
+        }
+    }
+}
+
+impl Update {
+    // The paper's number and value.
+    pub fn told(self) -> Change
+        ensures { λ r. ⌜ r ≡ changeOf self ⌝ }
+    {
+        match self {
+            Update::Changed(yes) => Change {
+                number: 0,
+                changed: yes,
+            },
+            Update::Refused(refusal) => Change {
+                number: refusal.number(),
+                changed: false,
+            },
+        }
+    }
+}
+
+impl Telling {
+    // The paper's number and value.
+    pub fn told(self) -> Count
+        ensures { λ r. ⌜ r ≡ countOf self ⌝ }
+    {
+        match self {
+            Telling::Events(count) => Count { number: 0, count },
+            Telling::Refused(refusal) => Count {
+                number: refusal.number(),
+                count: 0,
+            },
+        }
+    }
 }
 
 // What one scan leaves, and whether the accepted picture changed.

@@ -5,18 +5,14 @@ use Prim.Native.Nat.{ℕ, _*_}
 use mathlib.Core.Path.{_≡_}
 use mathlib.Core.List.{List, [], _∷_, _++_, map}
 use lib.ListN.{length, take, replicate}
-use Rattle.refusal.specs.Number.{numberOf}
 use Rattle.event.specs.declared.Coord.{Coord}
 use Rattle.event.specs.declared.Event.{Event}
 use Rattle.event.specs.declared.Event.the-variants.{Release, Press}
 use Rattle.codes.specs.Report.{reportOf}
 use Rattle.image.specs.Check.{checkOf, toldOf}
-use Rattle.debounce.specs.Calls.{makingVerdict, made, eventsVerdict, told as toldScan, buffered}
+use Rattle.debounce.specs.Calls.{makingVerdict, made, eventsVerdict, told as toldScan, buffered, numberIn, countOf}
 use Rattle.debounce.specs.declared.Debouncer.{Debouncer}
-use Rattle.debounce.specs.declared.Verdict.{Verdict}
-use Rattle.debounce.specs.declared.Verdict.the-variants as verdict
-use Rattle.debounce.specs.declared.Telling.{Telling}
-use Rattle.debounce.specs.declared.Telling.the-variants as telling
+use Rattle.debounce.specs.declared.Count.{Count}
 use Rattle.layout.specs.Model.{fresh}
 use Rattle.layout.specs.Packed.{actedIn, madeIn}
 use Rattle.layout.specs.Calls.{pack}
@@ -71,14 +67,9 @@ says r =
       decided = madeIn (told r .notes);
     }
 
--- the debouncer's answers in the paper's numbers
-abbrev pub numberIn : Verdict → ℕ
-numberIn verdict.Fine = 0
-numberIn (verdict.Refused refusal) = numberOf refusal
-
-abbrev pub scannedAs : Telling → List ℕ → Scanned
-scannedAs (telling.Events count) buffer = record { number = 0; events = take (3 * count) buffer }
-scannedAs (telling.Refused refusal) buffer = record { number = numberOf refusal; events = [] }
+-- so many events, three bytes each
+abbrev pub scannedAs : Count → List ℕ → Scanned
+scannedAs c buffer = record { number = c .number; events = take (3 * c .count) buffer }
 
 -- one scan after the other, one buffer lent to each, as the contract of `Debouncer::events` has it
 unfoldable pub scans : List (List ℕ) → Debouncer → List ℕ → List Scanned
@@ -87,7 +78,7 @@ scans (scan ∷ rest) d buffer =
     let v = eventsVerdict d scan (length buffer) in
     let t = toldScan v d scan in
     let after = buffered v d scan buffer in
-    scannedAs (t .telling) after ∷ scans rest (t .debouncer) after
+    scannedAs (countOf (t .telling)) after ∷ scans rest (t .debouncer) after
 
 unfoldable pub outcome : Input → Output
 outcome (Check image) = let t = toldOf (checkOf image) in Found (t .number) (t .place)

@@ -68,13 +68,6 @@ fn refused(out: &mut [u8], waiting: usize, refusal: Refusal) -> usize {
     out::put_number(out, at, words::wide(refusal.number()))
 }
 
-fn number_of(verdict: Verdict) -> u8 {
-    match verdict {
-        Verdict::Fine => 0,
-        Verdict::Refused(refusal) => refusal.number(),
-    }
-}
-
 // Whether each word from 1 on, and before `end`, is a number.
 fn are_numbers(line: &[u8], w: Words, end: usize) -> bool {
     let mut k = 1;
@@ -106,7 +99,7 @@ fn made(
     let debouncer = made.debouncer;
     store(debouncer, desk);
     let at = out::put_all(out, waiting, b"made ");
-    out::put_number(out, at, words::wide(number_of(verdict)))
+    out::put_number(out, at, words::wide(verdict.number()))
 }
 
 // `debounce R C NB PICTURE`
