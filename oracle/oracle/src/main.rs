@@ -10,6 +10,7 @@ mod debouncer;
 mod drains;
 mod generate;
 mod guard;
+mod incident;
 mod keyboard;
 mod layout;
 mod paper;
@@ -29,7 +30,10 @@ usage: oracle replay                             answer the script on standard i
                                                  debounce, layout, states, keyboard
        oracle compare-names FILE..               hold the constants in these .rt files to the names
        oracle compare KIND N SEED -- COMMAND..   hold COMMAND's answers to the oracle's
-       oracle drains N SEED                      drain N layouts and hold each to demand 3";
+       oracle drains N SEED                      drain N layouts and hold each to demand 3
+       oracle incident [TABLE LINES]             run the incident on the Rust, restart included, and the same
+                                                 on a permitted table; or the calls of LINES on an image
+       oracle incident-files FOLDER              write the incident's two tables and its lines to FOLDER";
 
 fn main() -> ExitCode {
     let args: Vec<String> = std::env::args().skip(1).collect();
@@ -38,6 +42,11 @@ fn main() -> ExitCode {
         ["replay"] => replay::run(),
         ["names"] => print(codes::names().as_bytes()),
         ["generate", kind, count, seed] => print_script(kind, count, seed),
+        ["incident"] => incident::both().and_then(|text| print(text.as_bytes())),
+        ["incident-files", folder] => incident::write_files(folder),
+        ["incident", table, lines] => {
+            incident::of_files(table, lines).and_then(|text| print(text.as_bytes()))
+        }
         ["compare-names", files @ ..] if !files.is_empty() => return compare::names::run(files),
         ["compare", kind, n, seed, "--", command @ ..] if !command.is_empty() => {
             return run_compare(kind, n, seed, command)

@@ -1,8 +1,8 @@
 //! An accepted image laid out as the trees that keyberon's layout takes, and the layout over them.
 //!
-//! Assumes: the image was accepted, so every record names lower ones and every code is legal. The Rust asks
-//! for references that last for ever; here the trees last as long as the layout that walks them and go with
-//! it, so that a script may bring any number of images.
+//! Assumes: the image was accepted, or refused for Nested alone, so every record names lower ones and every
+//! code is legal. The Rust asks for references that last for ever; here the trees last as long as the layout
+//! that walks them and go with it, so that a script may bring any number of images.
 
 use crate::codes;
 use crate::guard::Guarded;
@@ -34,6 +34,11 @@ impl Tabled {
     /// which holds no part of the trees.
     pub fn answer(&mut self, call: impl FnOnce(&mut Layout) -> String) -> String {
         self.layout.answer(call)
+    }
+
+    /// The same, with the message of a panic told.
+    pub fn attempt(&mut self, call: impl FnOnce(&mut Layout) -> String) -> Result<String, String> {
+        self.layout.attempt(call)
     }
 }
 

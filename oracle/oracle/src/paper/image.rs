@@ -62,12 +62,23 @@ pub struct Parts {
 
 /// The parts of an accepted image, or the refusal.
 pub fn check(bytes: &[u8]) -> Result<Parts, Refusal> {
+    check_but(bytes, |_| false)
+}
+
+/// The parts of an image that is accepted or breaks the open rule alone, which the Rust does not have.
+pub fn check_but_nested(bytes: &[u8]) -> Result<Parts, Refusal> {
+    check_but(bytes, |refusal| refusal.number == NESTED)
+}
+
+/// The parts of an image that has no faults but forgiven ones of 4 to 9.
+fn check_but(bytes: &[u8], forgiven: impl Fn(&Refusal) -> bool) -> Result<Parts, Refusal> {
     let sizes = sizes(bytes)?;
     if bytes.len() != sizes.length() {
         return Err(Refusal::whole(LENGTH));
     }
     let parts = sizes.parts(&words(bytes));
-    let faults = parts.faults();
+    let mut faults = parts.faults();
+    faults.retain(|refusal| !forgiven(refusal));
     match faults.iter().min_by_key(|refusal| order(refusal)) {
         Some(first) => Err(*first),
         None => Ok(parts),
