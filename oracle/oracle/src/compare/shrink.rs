@@ -2,7 +2,7 @@
 //! words and lower bytes. Each try runs both sides.
 //!
 //! Assumes: any difference is as good as the first one. The time is limited: a script that could be still
-//! shorter is of more use than a long wait.
+//! shorter is of more use than a long wait. Whoever wants the verdict alone gives it no time.
 
 use super::{side::Difference, Sides};
 use crate::script::Script;
@@ -11,6 +11,16 @@ use std::io;
 use std::time::{Duration, Instant};
 
 const LONGEST_SEARCH: Duration = Duration::from_secs(40);
+
+/// The variable of the environment that sets another time, in whole seconds.
+const SEARCH_SECONDS: &str = "SEARCH_SECONDS";
+
+/// How long a search may take.
+fn search_time() -> Duration {
+    let wanted = std::env::var(SEARCH_SECONDS).ok();
+    let seconds = wanted.and_then(|text| text.parse().ok());
+    seconds.map_or(LONGEST_SEARCH, Duration::from_secs)
+}
 
 struct Shrinker<'a> {
     sides: &'a Sides,
@@ -25,20 +35,19 @@ pub fn shortest(sides: &Sides, script: Script) -> io::Result<(Script, Option<Dif
         sides,
         difference: sides.difference(&script, false)?,
         best: script,
-        end: Instant::now() + LONGEST_SEARCH,
+        end: Instant::now() + search_time(),
     };
     shrinker.cut_tail()?;
     // a lowered byte may let others go, so the steps are taken until none serves
-    loop {
-        let before = shrinker.best.bytes();
+    let mut before = Vec::new();
+    while shrinker.has_time() && shrinker.best.bytes() != before {
+        before = shrinker.best.bytes();
         shrinker.drop_lines()?;
         for line in 0..shrinker.best.lines.len() {
             shrinker.shrink_words(line)?;
         }
-        if shrinker.best.bytes() == before {
-            return Ok((shrinker.best, shrinker.difference));
-        }
     }
+    Ok((shrinker.best, shrinker.difference))
 }
 
 impl Shrinker<'_> {
