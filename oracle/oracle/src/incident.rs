@@ -15,39 +15,38 @@ use std::fmt::Write;
 use std::path::Path;
 use std::{fs, io};
 
-/// The table of the incident: 1 layer of 1 by 4 keys. CHEMICAL at (0,0) is a hold-tap (record 3) whose hold is a
-/// hold-tap (record 2); ADD at (0,1) is the key code 57; the two keys beside it are 1E and 1F.
-const NESTED: [u16; 40] = [
-    1, 1, 1, 4, 7, 0, 24, 80, // header
-    3, 4, 5, 6, // cells
+/// The table of the incident: 1 layer of 1 by 8 keys. CHEMICAL at (0,0) is a hold-tap (record 10) whose hold is a
+/// hold-tap (record 9); ADD at (0,1) is the key code 57; the others are the digits 1 to 6.
+const NESTED: [u16; 60] = [
+    1, 1, 1, 8, 11, 0, 32, 120, // header
+    10, 2, 3, 4, 5, 6, 7, 8, // cells
     2, 0x06, 0, 0, // 0: CHEMICAL, tapped
-    2, 0xE1, 0, 0, // 1: CHEMICAL, held
-    7, 200, 1, 0, // 2: a hold-tap
-    7, 200, 2, 0, // 3: CHEMICAL; its hold is record 2
-    2, 0x57, 0, 0, // 4: ADD
-    2, 0x1E, 0, 0, // 5
-    2, 0x1F, 0, 0, // 6
+    2, 0x3A, 0, 0, // 1: CHEMICAL, held
+    2, 0x57, 0, 0, // 2: ADD
+    2, 0x1E, 0, 0, 2, 0x1F, 0, 0, 2, 0x20, 0, 0, // 3, 4, 5: digits
+    2, 0x21, 0, 0, 2, 0x22, 0, 0, 2, 0x23, 0, 0, // 6, 7, 8: digits
+    7, 10, 1, 0, // 9: a hold-tap, all that CHEMICAL may be
+    7, 10, 9, 0, // 10: CHEMICAL; its hold is record 9
 ];
 
-/// The word that names CHEMICAL's hold, and the record that a permitted table has there.
-const HOLD_WORD: usize = 26;
-const CLOSED: u16 = 1;
+/// The words of a record.
+const RECORD: usize = 4;
 
-/// ADD is pressed and held; CHEMICAL is touched; a cloth goes over the other keys, two events a tick, until the
-/// seventeenth event comes; then all keys are let go.
+/// ADD is pressed and held; CHEMICAL is touched; a cloth goes over the digits, four events a tick, until the
+/// seventeenth event comes; then all keys are let go, ADD last.
 const LINES: &str = "\
 p 0 1\nt\np 0 0\nt
-p 0 2\nr 0 2\nt\np 0 3\nr 0 3\nt\np 0 2\nr 0 2\nt\np 0 3\nr 0 3\nt
-p 0 2\nr 0 2\nt\np 0 3\nr 0 3\nt\np 0 2\nr 0 2\nt\np 0 3\nr 0 3\nt
-p 0 2
-r 0 0\nr 0 2\nt\nt\nt\nt\nt\nt\nt\nt\nt\nt\nt\nt\nt\nt\nt\nt\nt\nt
+p 0 2\nr 0 2\np 0 3\nr 0 3\nt\np 0 4\nr 0 4\np 0 5\nr 0 5\nt
+p 0 6\nr 0 6\np 0 7\nr 0 7\nt\np 0 2\nr 0 2\np 0 3\nr 0 3\nt
+p 0 4
+r 0 4\nr 0 0\nt\nt\nt\nt\nt\nt\nt\nt\nt\nt\nt\nt\nt\nt\nt\nt
 r 0 1\nt\n";
 
 /// The incident's table and a permitted one, each with the incident's lines.
 pub fn both() -> io::Result<String> {
     guard::silence();
     let nested = shift(&bytes(&NESTED), LINES)?;
-    let permitted = shift(&bytes(&permitted()), LINES)?;
+    let permitted = shift(&permitted(), LINES)?;
     Ok(format!("{nested}\n{permitted}"))
 }
 
@@ -55,15 +54,18 @@ pub fn both() -> io::Result<String> {
 pub fn write_files(folder: &str) -> io::Result<()> {
     let folder = Path::new(folder);
     fs::write(folder.join("incident.img"), bytes(&NESTED))?;
-    fs::write(folder.join("permitted.img"), bytes(&permitted()))?;
+    fs::write(folder.join("permitted.img"), permitted())?;
     fs::write(folder.join("incident.txt"), LINES)
 }
 
-/// The incident's table with a hold that is no hold-tap.
-fn permitted() -> [u16; 40] {
-    let mut words = NESTED;
-    words[HOLD_WORD] = CLOSED;
-    words
+/// The incident's table without its last record: CHEMICAL is record 9, whose hold is a key code.
+fn permitted() -> Vec<u8> {
+    let mut words = NESTED[..NESTED.len() - RECORD].to_vec();
+    let (records, list_offset, chemical) = (4, 7, 8);
+    words[records] -= 1;
+    words[list_offset] -= 2 * RECORD as u16;
+    words[chemical] -= 1;
+    bytes(&words)
 }
 
 /// A table and lines from files.
@@ -229,9 +231,9 @@ mod tests {
     fn the_rust_panics_and_types_add_twice() {
         let said = shift(&bytes(&NESTED), LINES).expect("the Rust takes the table");
         assert!(
-            said.starts_with("table: refused 8 3 by the rules of the image; the Rust takes it\n")
+            said.starts_with("table: refused 8 10 by the rules of the image; the Rust takes it\n")
         );
-        let panic = "p 0 2   panic: assertion failed: self.waiting.is_none()\n";
+        let panic = "p 0 4   panic: assertion failed: self.waiting.is_none()\n";
         assert_eq!(said.matches("panic").count(), 1);
         assert!(
             said.contains(panic) && said.contains(" 57 2 times"),
@@ -241,7 +243,7 @@ mod tests {
 
     #[test]
     fn on_a_permitted_table_add_is_typed_once() {
-        let said = shift(&bytes(&permitted()), LINES).expect("the Rust takes the table");
+        let said = shift(&permitted(), LINES).expect("the Rust takes the table");
         assert!(said.starts_with("table: accepted by the rules"));
         assert!(
             !said.contains("panic") && said.ends_with(" 57 1 time\n"),
@@ -251,7 +253,7 @@ mod tests {
 
     #[test]
     fn other_faults_and_lines_are_refused() {
-        assert!(shift(&bytes(&NESTED)[..79], LINES).is_err());
+        assert!(shift(&bytes(&NESTED)[..119], LINES).is_err());
         assert!(shift(&bytes(&NESTED), "p 0\n").is_err());
     }
 }
