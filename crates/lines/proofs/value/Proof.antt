@@ -1,0 +1,60 @@
+-- `lines::value` meets its contract: a word by its length. Assumes nothing.
+use borrow.Author.Needs.{needs}
+use mathlib.Core.Path.{_≡_, sym, _∙_}
+use denote.Ref.{now}
+use native.Mathlib.Omega.{arith}
+use Rattle.lines.proofs.Laws.{value-one, value-two, value-three, value-none}
+use Rattle.lines.proofs.value.Statement.{statement}
+use Rattle.lines.proofs.value.Tie as tie
+
+returns : tie.Need-returns
+returns c = omega (arith, c .digit .ensures, value-one (now (c .before .before .before .before .args .word)) (c .before .before .if1 .taken))
+
+returns-2 : tie.Need-returns-2
+returns-2 c =
+    omega (
+      arith,
+      c .before .before .digit2 .ensures,
+      c .digit3 .ensures,
+      value-two (now (c .before .before .before .before .before .before .before .args .word)) (c .before .before .before .before .if2 .taken),
+    )
+
+returns-3 : tie.Need-returns-3
+returns-3 c =
+    omega (
+      arith,
+      c .before .before .before .before .digit4 .ensures,
+      c .before .before .digit5 .ensures,
+      c .digit6 .ensures,
+      value-three (now (c .before .before .before .before .before .before .before .before .before .before .args .word)) (c .before .before .before .before .before .before .if3 .taken),
+    )
+
+returns-4 : tie.Need-returns-4
+returns-4 c = sym (value-none (now (c .before .before .before .before .args .word)) (c .before .before .if1 .left) (c .before .if2 .left) (c .if3 .left))
+
+pub value-spec : {M : Type 1} → statement M
+value-spec =
+    tie.close
+    (tie.spec
+    (λ c. search needs)
+    (λ c κs. search needs)
+    returns
+    (λ c. search needs)
+    (λ c κs. search needs)
+    (λ c. search needs)
+    (λ c. search needs)
+    (λ c κs. search needs)
+    (λ c. search needs)
+    returns-2
+    (λ c. search needs)
+    (λ c κs. search needs)
+    (λ c. search needs)
+    (λ c. search needs)
+    (λ c κs. search needs)
+    (λ c. search needs)
+    (λ c. search needs)
+    (λ c. search needs)
+    (λ c κs. search needs)
+    (λ c. search needs)
+    returns-3
+    returns-4)
