@@ -13,6 +13,7 @@ mod guard;
 mod incident;
 mod keyboard;
 mod layout;
+mod panel;
 mod paper;
 mod random;
 mod replay;
@@ -25,6 +26,7 @@ use std::process::ExitCode;
 
 const USAGE: &str = "\
 usage: oracle replay                             answer the script on standard input
+       oracle panel IMAGE                        print what panel must, lines on standard input
        oracle names                              print the names and values of the key codes
        oracle generate KIND COUNT SEED           print a script; KIND is: codes, image, areas,
                                                  debounce, layout, states, keyboard
@@ -33,13 +35,15 @@ usage: oracle replay                             answer the script on standard i
        oracle drains N SEED                      drain N layouts and hold each to demand 3
        oracle incident [TABLE LINES]             run the incident on the Rust, restart included, and the same
                                                  on a permitted table; or the calls of LINES on an image
-       oracle incident-files FOLDER              write the incident's two tables and its lines to FOLDER";
+       oracle incident-files FOLDER              write the incident's two tables and its lines to FOLDER
+       oracle compare-panel N SEED -- COMMAND..  hold what COMMAND prints to what panel must";
 
 fn main() -> ExitCode {
     let args: Vec<String> = std::env::args().skip(1).collect();
     let words: Vec<&str> = args.iter().map(String::as_str).collect();
     let done = match words.as_slice() {
         ["replay"] => replay::run(),
+        ["panel", image] => panel::run(image),
         ["names"] => print(codes::names().as_bytes()),
         ["generate", kind, count, seed] => print_script(kind, count, seed),
         ["incident"] => incident::both().and_then(|text| print(text.as_bytes())),
@@ -52,6 +56,9 @@ fn main() -> ExitCode {
             return run_compare(kind, n, seed, command)
         }
         ["drains", n, seed] => return run_drains(n, seed),
+        ["compare-panel", n, seed, "--", command @ ..] if !command.is_empty() => {
+            return run_compare_panel(n, seed, command)
+        }
         _ => return usage(),
     };
     match done {
@@ -98,6 +105,13 @@ fn run_compare(kind: &str, n: &str, seed: &str, command: &[&str]) -> ExitCode {
 fn run_drains(n: &str, seed: &str) -> ExitCode {
     match (n.parse(), seed.parse()) {
         (Ok(count), Ok(number)) => drains::run(count, number),
+        _ => usage(),
+    }
+}
+
+fn run_compare_panel(n: &str, seed: &str, command: &[&str]) -> ExitCode {
+    match (n.parse(), seed.parse()) {
+        (Ok(count), Ok(number)) => panel::compare(count, number, command),
         _ => usage(),
     }
 }
