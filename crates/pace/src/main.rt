@@ -1,62 +1,38 @@
-// A layout driven by bytes, so that its calls can be counted: oracle/speed. Standard input has a table image and, behind
-// it, a script of three bytes a call. It writes the code buffer after the last call.
+// The public calls driven by bytes, so that they can be counted: oracle/speed. The first byte of standard input says what is
+// driven, the rest is its script. It writes the buffer that the calls wrote to.
 // Assumes nothing.
-use event::Event;
-use image::in_use;
-use layout::Layout;
+mod keys;
+mod reports;
+mod scans;
+
 use libc::STDIN_FILENO;
 use libc::STDOUT_FILENO;
 
-// Two ticks. No script of oracle/speed asks for them: with a second caller the compiler keeps `tick` a function, which can
-// be counted by its name.
-fn twice(layout: Layout, image: &[u8], out: &mut [u8]) -> Layout {
-    let once = layout.tick(image, out).layout;
-    once.tick(image, out).layout
-}
-
-// One call: 0 and 1 are an event with its row and column, 2 is a tick, 3 the codes alone.
-fn step(layout: Layout, image: &[u8], call: [u8; 3], out: &mut [u8]) -> Layout {
-    let kind = call[0];
-    let i = call[1];
-    let j = call[2];
+// What each script is stands in the file that runs it.
+fn drive(input: &[u8], out: &mut [u8]) {
+    if input.len() < 1 {
+        return;
+    }
+    let kind = input[0];
+    let script = &input[1..];
     if kind == 0 {
-        return layout.event(image, Event::Release(i, j), out).layout;
+        return keys::drive(script, out);
     }
     if kind == 1 {
-        return layout.event(image, Event::Press(i, j), out).layout;
+        return scans::run(script, out);
     }
     if kind == 2 {
-        return layout.tick(image, out).layout;
+        return reports::codes(script, out);
     }
     if kind == 3 {
-        layout.keycodes(image, out);
-        return layout;
-    }
-    twice(layout, image, out)
-}
-
-fn run(image: &[u8], script: &[u8], out: &mut [u8]) {
-    let mut layout = Layout::new();
-    let mut at: usize = 0;
-    while 3 <= script.len() - at {
-        let call = [script[at], script[at + 1], script[at + 2]];
-        layout = step(layout, image, call, out);
-        at += 3;
-    }
-}
-
-fn drive(input: &[u8], out: &mut [u8]) {
-    let image = in_use(input, input);
-    let n = image.len();
-    if n <= input.len() {
-        run(image, &input[n..], out);
+        reports::run(script, out)
     }
 }
 
 fn main() {
     let mut input = io::large_buffer();
     let n = io::read_full(STDIN_FILENO, &mut input);
-    let mut out = [0u8; 64];
+    let mut out = [0u8; 384];
     drive(&input[..n], &mut out);
     io::write_all(STDOUT_FILENO, &out);
 }
