@@ -1,5 +1,5 @@
 // Reports. For `codes` the script is the codes of one report; for `run`, which gives reports to a keyboard, eight codes a
-// report. Assumes nothing.
+// report, and each answer has its place in the buffer, so that none is left out. Assumes nothing.
 use codes::KbHidReport;
 use keyboard::Keyboard;
 
@@ -29,7 +29,7 @@ pub fn run(script: &[u8], out: &mut [u8]) {
         let report = KbHidReport::from_codes(&script[at..at + 8], 8);
         let done = keyboard.set_keyboard_report(report);
         keyboard = done.keyboard;
-        put(out, 0, if done.changed { 1 } else { 0 });
+        put(out, at / 8, if done.changed { 1 } else { 0 });
         at += 8;
     }
 }

@@ -1,143 +1,96 @@
-//! The calls that are counted: what comes before each, and the call itself.
+//! What is counted: the cases, each as two inputs of the port's `pace`. A call costs what the second input costs more.
 //!
-//! Assumes: a script has three bytes a call, as `run` in `main.rs` and the port's `pace` read it.
+//! Assumes: the first byte of an input says what is driven: 0 a layout, 1 a debouncer, 2 the codes of a report, 3 a
+//! keyboard. With any other nothing is.
 
-use super::tables;
+use super::calls::Keys;
+use super::checked;
 
-type Call = [u8; 3];
+/// Nothing is driven.
+const NOTHING: u8 = 255;
 
-const TICK: Call = [2, 0, 0];
-
-fn press(key: [u8; 2]) -> Call {
-    [1, key[0], key[1]]
+#[derive(Clone)]
+pub struct Case {
+    pub part: &'static str,
+    pub name: String,
+    /// Of what grows, how much there is.
+    pub size: Option<usize>,
+    pub before: Vec<u8>,
+    pub after: Vec<u8>,
 }
 
-fn release(key: [u8; 2]) -> Call {
-    [0, key[0], key[1]]
+/// So many switches down, the rest of 8 by 16 up.
+fn scan(down: usize) -> Vec<u8> {
+    (0..128).map(|place| (place < down).into()).collect()
 }
 
-struct Case {
-    name: &'static str,
-    before: Vec<Call>,
-    last: Call,
-}
-
-fn case(name: &'static str, before: Vec<Call>, last: Call) -> Case {
-    Case { name, before, last }
-}
-
-/// Keys of a table: a hold-tap with its timeout, and others that are codes.
-struct Keys {
-    hold_tap: [u8; 2],
-    timeout: usize,
-    plain: Vec<[u8; 2]>,
-}
-
-impl Keys {
-    fn presses(&self, count: usize) -> Vec<Call> {
-        let keys = self.plain.iter().cycle();
-        keys.take(count).map(|&key| press(key)).collect()
-    }
-
-    /// So many states.
-    fn held(&self, count: usize) -> Vec<Call> {
-        let presses = self.presses(count);
-        presses.into_iter().flat_map(|call| [call, TICK]).collect()
-    }
-
-    fn cases(&self) -> Vec<Case> {
-        let (tap, plain) = (self.hold_tap, self.plain[0]);
-        let waiting = vec![press(tap), TICK];
-        let then = |mut before: Vec<Call>, more: &[Call]| {
-            before.extend(more);
-            before
-        };
-        vec![
-            case("idle tick, nothing held", vec![], TICK),
-            case("idle tick, 6 states held", self.held(6), TICK),
-            case("idle tick, 64 states held", self.held(64), TICK),
-            case(
-                "tick while a hold-tap waits, nothing queued",
-                waiting.clone(),
-                TICK,
-            ),
-            case(
-                "tick while a hold-tap waits, 8 queued",
-                then(waiting.clone(), &self.presses(8)),
-                TICK,
-            ),
-            case(
-                "tick that acts on a press, nothing held",
-                vec![press(plain)],
-                TICK,
-            ),
-            case(
-                "tick that acts on a press, 6 states held",
-                then(self.held(6), &[press(plain)]),
-                TICK,
-            ),
-            case(
-                "tick that acts on a release, 6 states held",
-                then(self.held(6), &[release(plain)]),
-                TICK,
-            ),
-            case("tick that begins a hold-tap", vec![press(tap)], TICK),
-            // the press is a tick old when it begins, so the last of `timeout` ticks decides
-            case(
-                "tick that decides a hold",
-                then(vec![press(tap)], &vec![TICK; self.timeout - 1]),
-                TICK,
-            ),
-            case("event, nothing queued", vec![], press(plain)),
-            case("event, 8 queued", self.presses(8), press(plain)),
-            case("event that releases what waits: tap", waiting, release(tap)),
-            case(
-                "event with 16 queued: the oldest is acted on",
-                self.presses(16),
-                press(plain),
-            ),
-        ]
-    }
-}
-
-/// The tables by their names, with their cases.
-fn all() -> Vec<(&'static str, Vec<u8>, Vec<Case>)> {
-    let on_z = Keys {
-        hold_tap: [0, 0],
-        timeout: 3,
-        plain: vec![[0, 1]],
-    };
-    let on_ordinary = Keys {
-        hold_tap: [3, 9],
-        timeout: 200,
-        plain: (0..12).map(|column| [0, column]).collect(),
+fn scans() -> Vec<Case> {
+    let case = |name: &str, before: &[usize], last: usize| {
+        let before: Vec<u8> = before.iter().flat_map(|&down| scan(down)).collect();
+        let before = [&[1], &before[..]].concat();
+        Case {
+            part: "scan",
+            name: name.into(),
+            size: None,
+            after: [&before[..], &scan(last)].concat(),
+            before,
+        }
     };
     vec![
-        ("Z", tables::z(), on_z.cases()),
-        ("ordinary", tables::ordinary(), on_ordinary.cases()),
+        case("scan, nothing changes", &[], 0),
+        case("scan, a change begins", &[], 1),
+        case("scan, the change stands", &[1], 1),
+        case("scan, the change is taken: 1 event", &[1; 5], 1),
+        case("scan, the change is taken: 6 events", &[6; 5], 6),
+        case("scan, the change is taken: 128 events", &[128; 5], 128),
     ]
 }
 
-pub fn names() -> String {
-    let mut text = String::new();
-    for (table, _, cases) in all() {
-        for case in cases {
-            text += &format!("{table}: {}\n", case.name);
-        }
-    }
-    text
+fn reports() -> Vec<Case> {
+    let case = |name: &str, codes: &[u8]| Case {
+        part: "report",
+        name: name.into(),
+        size: None,
+        before: vec![NOTHING],
+        after: [&[2], codes].concat(),
+    };
+    vec![
+        case("report of no code", &[]),
+        case("report of 1 code", &[4]),
+        case("report of 2 modifiers and 2 codes", &[0xE0, 0xE1, 4, 5]),
+        case("report of 6 codes", &[4, 5, 6, 7, 8, 9]),
+        case("report of 64 codes", &(4..68).collect::<Vec<u8>>()),
+    ]
 }
 
-/// The image and the script of a case.
-pub fn input(number: usize, with_last: bool) -> Option<Vec<u8>> {
-    let cases = all().into_iter().flat_map(|(_, image, cases)| {
-        let of_table = move |case: Case| (image.clone(), case);
-        cases.into_iter().map(of_table)
-    });
-    let (mut bytes, case) = cases.into_iter().nth(number)?;
-    bytes.extend(case.before.concat());
-    if with_last {
-        bytes.extend(case.last);
-    }
-    Some(bytes)
+fn keyboards() -> Vec<Case> {
+    let first = [4, 0, 0, 0, 0, 0, 0, 0];
+    let other = [5, 0, 0, 0, 0, 0, 0, 0];
+    let before = [&[3], &first[..]].concat();
+    let case = |name: &str, last: [u8; 8]| Case {
+        part: "keyboard",
+        name: name.into(),
+        size: None,
+        before: before.clone(),
+        after: [&before[..], &last].concat(),
+    };
+    vec![
+        case("keyboard, the report as before", first),
+        case("keyboard, another report", other),
+    ]
+}
+
+pub fn all() -> Vec<Case> {
+    let z = Keys::of_z();
+    let layouts = [z.cases(), Keys::of_ordinary().cases()].concat();
+    let others = [scans(), reports(), keyboards()].concat();
+    [layouts, others, checked::cases(), z.growth()].concat()
+}
+
+pub fn names() -> String {
+    let line = |case: &Case| {
+        let size = case.size.map_or(String::new(), |size| size.to_string());
+        format!("{}\t{}\t{size}\n", case.part, case.name)
+    };
+    all().iter().map(line).collect()
 }

@@ -1,23 +1,27 @@
-//! What is counted, and the Rust's side of it. This file reads the command line; `run` is what `oracle/speed/run`
-//! has callgrind count.
+//! What is counted, the Rust's side of it, and what is shown of the counts. This file reads the command line;
+//! `oracle/speed/run` is what calls it.
 //!
-//! Assumes: the input is one that `input` wrote, so its image is accepted.
+//! Assumes: an input is one that `input` wrote, and a file of counts one that `oracle/speed/run` wrote.
 
+mod calls;
 mod cases;
+mod checked;
+mod counts;
+mod draw;
+mod fill;
+mod rust;
 mod tables;
 
-use keyberon::key_code::KeyCode;
-use keyberon::layout::{Event, Layout};
+use counts::Counts;
 use std::io::{self, Write};
 use std::process::ExitCode;
 
 const USAGE: &str = "\
-usage: bench cases                  print the cases, a line each
+usage: bench cases                  print the cases, a line each: part, case, size
        bench input N before|after   print what `pace` reads for case N, without its last call or with it
-       bench run FILE               run that input on keyberon's layout, print the code buffer";
-
-/// Bytes of the code buffer.
-const ROOM: usize = 64;
+       bench run FILE               run that input on keyberon, print the buffer
+       bench draw COUNTS            print the picture of the counts
+       bench fill COUNTS FILE       print FILE with its tables made anew from the counts";
 
 fn main() -> ExitCode {
     let args: Vec<String> = std::env::args().skip(1).collect();
@@ -31,39 +35,21 @@ fn main() -> ExitCode {
     }
 }
 
+fn read(file: &str) -> Option<String> {
+    std::fs::read_to_string(file).ok()
+}
+
 fn answer(words: &[&str]) -> Option<Vec<u8>> {
     match words {
         ["cases"] => Some(cases::names().into_bytes()),
-        ["input", n, "before"] => cases::input(n.parse().ok()?, false),
-        ["input", n, "after"] => cases::input(n.parse().ok()?, true),
-        ["run", file] => {
-            let input = std::fs::read(file).ok()?;
-            let (image, script) = input.split_at(tables::length(&input));
-            let mut layout = Layout::new(tables::layers(image));
-            let mut out = vec![0; ROOM];
-            run(&mut layout, script, &mut out);
-            Some(out)
+        ["input", n, "before"] => Some(cases::all().get(n.parse::<usize>().ok()?)?.before.clone()),
+        ["input", n, "after"] => Some(cases::all().get(n.parse::<usize>().ok()?)?.after.clone()),
+        ["run", file] => rust::run(&std::fs::read(file).ok()?),
+        ["draw", counts] => Some(draw::picture(&Counts::read(&read(counts)?)).into_bytes()),
+        ["fill", counts, file] => {
+            let counts = Counts::read(&read(counts)?);
+            Some(fill::filled(&read(file)?, &counts).into_bytes())
         }
         _ => None,
-    }
-}
-
-fn write(codes: impl Iterator<Item = KeyCode>, out: &mut [u8]) {
-    for (place, code) in codes.enumerate() {
-        out[place] = code as u8;
-    }
-}
-
-/// The calls of a script, three bytes each, as the port's `pace` reads them.
-#[inline(never)]
-#[no_mangle]
-fn run(layout: &mut Layout, script: &[u8], out: &mut [u8]) {
-    for call in script.chunks_exact(3) {
-        let (i, j) = (call[1], call[2]);
-        match call[0] {
-            0 => write(layout.event(Event::Release(i, j)), out),
-            1 => write(layout.event(Event::Press(i, j)), out),
-            _ => write(layout.tick(), out),
-        }
     }
 }

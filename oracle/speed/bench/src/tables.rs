@@ -8,7 +8,12 @@ use keyberon::layout::Layers;
 
 const HEADER: usize = 16;
 
-fn image(sizes: [usize; 3], cells: &[usize], records: &[[usize; 4]], list: &[usize]) -> Vec<u8> {
+pub fn image(
+    sizes: [usize; 3],
+    cells: &[usize],
+    records: &[[usize; 4]],
+    list: &[usize],
+) -> Vec<u8> {
     let records_at = HEADER + 2 * cells.len();
     let list_at = records_at + 8 * records.len();
     let [layers, rows, columns] = sizes;
@@ -78,7 +83,7 @@ fn keep<T>(items: impl Iterator<Item = T>) -> &'static [T] {
     Box::leak(items.collect())
 }
 
-fn code(word: usize) -> KeyCode {
+pub fn code(word: usize) -> KeyCode {
     // Safety: the enum is stored as a byte, and the images have legal codes.
     unsafe { std::mem::transmute::<u8, KeyCode>(word as u8) }
 }
