@@ -1,4 +1,4 @@
-//! The two tables that are counted on, as images, and an image as the trees that keyberon takes.
+//! The two tables that the layout is counted on, as images, and an image as the trees that keyberon takes.
 //!
 //! Assumes: images are those of this file, so they are accepted. The trees are never given back.
 
