@@ -6,21 +6,21 @@
 -- place as a key does (`listed`, `over`); a condition that a key follows gives 1 in all six (`said-then`); of several
 -- conditions the last counts (`said`). `frame` holds for those lists too.
 -- Assumes nothing.
-use Prim.Native.Nat.{ℕ, zero, suc, _+_, _-_, _<_, _≤_}
-use mathlib.Core.Bool.{Bool, true, false, cond, not, _&&_, _||_, true≢false}
+use Prim.Native.Nat.{ℕ, zero, suc, _+_, _-_}
+use mathlib.Core.Bool.{Bool, true, false, _&&_, _||_, true≢false}
 use mathlib.Core.List.{List, [], _∷_, _++_}
 use mathlib.Core.Path.{_≡_, refl, sym, ap, _∙_}
 use native.Mathlib.Omega.{arith}
 use borrow.Author.Tests.{leb-true, le-leb, lt-leb, eqb-true, ne-eqb}
 use lib.Dec.{eqb, leb}
-use lib.ListN.{length, getD, drop, replicate}
+use lib.ListN.{replicate}
 use Rattle.codes.specs.Codes.{modifier}
-use Rattle.codes.specs.Hid111.{key, modifierKey, condition, bit, Frame, Keys, OnlyModifiers, KeysReport, ConditionReport}
-use Rattle.lists.specs.Lists.{has, count, every, keep}
+use Rattle.codes.specs.Hid111.{key, modifierKey, condition, Frame, Keys, OnlyModifiers, KeysReport, ConditionReport}
+use Rattle.lists.specs.Lists.{count, every, keep}
 use Rattle.codes.specs.Report.{reportOf}
 use Rattle.lists.proofs.Laws.{both-true, count-append, every-append}
-use Rattle.codes.proofs.Modifiers.{modified, modified-bit, no-bit}
-use Rattle.codes.proofs.Six.{taking, sixOf, report-parts, length-keyedAll, NoCondition, listed, over, said}
+use Rattle.codes.proofs.Modifiers.{modified-bit, no-bit}
+use Rattle.codes.proofs.Six.{taking, report-parts, length-keyedAll, NoCondition, listed, over, said}
 
 pub frame : (cs : List ℕ) → Frame cs (reportOf cs)
 frame cs =

@@ -6,21 +6,21 @@
 -- Assumes nothing.
 use Prim.Native.Nat.{ℕ, zero, suc, _+_, _-_, _<_, _≤_}
 use mathlib.Core.Bool.{Bool, true, false, cond, not, _&&_, true≢false}
-use mathlib.Core.List.{List, [], _∷_, _++_, append-assoc, append-nil}
-use mathlib.Core.Path.{_≡_, refl, sym, ap, _∙_}
+use mathlib.Core.List.{List, [], _∷_, _++_, append-nil}
+use mathlib.Core.Path.{_≡_, refl, sym, _∙_}
 use native.Mathlib.Nat.{add-zero, sub-zero, suc-sub-suc}
 use native.Mathlib.Omega.{arith}
-use borrow.Author.Tests.{eqb-true, eqb-false, ltb-true, ltb-false, ne-eqb, leb-true, leb-false, le-leb, lt-leb, not-true}
+use borrow.Author.Tests.{ltb-true, ltb-false, ne-eqb, leb-true, leb-false, le-leb, lt-leb, not-true}
 use lib.Bits.{or-zero-r}
 use lib.Dec.{eqb, leb, ltb}
-use lib.ListN.{length, set, replicate, length-append, length-replicate, length-set, length-map}
+use lib.ListN.{length, replicate, length-append, length-replicate, length-set}
 use lib.Seq.{set-append-seam, append-snoc}
 use Rattle.codes.specs.Codes.{modifier, modifierBit}
 use Rattle.codes.specs.Hid111.{condition}
 use Rattle.lists.specs.Lists.{count, every, keep}
 use Rattle.codes.specs.Report.{freePlace, filled, placed, keyed, pressedOf, withCodes, reportOf}
 use Rattle.lists.proofs.Laws.{both-true}
-use Rattle.codes.proofs.Laws.{modifier-range, filled-is, keyed-none, keyed-filled, keyed-placed, placed-free, placed-full}
+use Rattle.codes.proofs.Laws.{filled-is, keyed-none, keyed-filled, keyed-placed, placed-free, placed-full}
 use Rattle.codes.proofs.Modifiers.{modified}
 
 -- a code that takes a place: no modifier, not 0, and no condition

@@ -1,7 +1,7 @@
 -- The report: document 01, "Report and keyboard". Byte 0 is the modifiers', byte 1 is kept, bytes 2 to 7 are the six.
 -- Assumes nothing.
 use Prim.Native.Nat.{ℕ, suc}
-use mathlib.Core.Bool.{Bool, cond}
+use mathlib.Core.Bool.{cond}
 use mathlib.Core.List.{List, [], _∷_, _++_, map}
 use lib.Bits.{bitOr}
 use lib.Dec.{eqb, leb, ltb}

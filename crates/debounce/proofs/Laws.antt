@@ -1,18 +1,14 @@
 -- Laws of pictures: two places on, a scan laid into its places, the first places and the rest. Assumes nothing.
-use Prim.Native.Nat.{ℕ, zero, suc, _+_, _-_, _<_, _≤_}
-use mathlib.Core.Bool.{Bool, true, false, _&&_}
-use mathlib.Core.List.{List, [], _∷_, _++_}
-use mathlib.Core.Path.{_≡_, refl, sym, ap, _∙_}
+use Prim.Native.Nat.{ℕ, suc, _+_, _-_, _<_, _≤_}
+use mathlib.Core.List.{List, _++_}
+use mathlib.Core.Path.{_≡_}
 use native.Mathlib.Numerals.{add-one, add-two}
 use native.Mathlib.Omega.{arith}
-use borrow.Author.Tests.{eq-eqb, ne-eqb, eqb-true}
-use lib.Dec.{eqb}
-use lib.ListN.{length, take, drop, getD, set, replicate, length-take, length-append, length-replicate, drop-of-length-le}
-use lib.Seq.{drop-cons, take-suc, set-at, length-take-le, append-snoc, sets}
+use lib.ListN.{length, take, getD, set, replicate}
+use lib.Seq.{take-suc, set-at, length-take-le, append-snoc, sets}
 use Rattle.event.specs.declared.Event.{Event}
 use Rattle.event.specs.declared.Event.the-variants.{Release, Press}
 use Rattle.event.specs.Bytes.{bytesOf}
-use Rattle.lists.specs.Lists.{alike}
 
 -- so many bytes of a scan, and zeros to the 128th place: one byte more
 pub pad-on : (scan : List ℕ) (i : ℕ) → i < length scan → length scan ≤ 128

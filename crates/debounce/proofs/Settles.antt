@@ -14,7 +14,7 @@ use Rattle.debounce.specs.Picture.{padded, isScan}
 use Rattle.debounce.specs.Step as bounce
 use Rattle.debounce.specs.Events.{written}
 use Rattle.debounce.specs.Calls.{switches, stateGood, rule, updateVerdict, updated, eventsVerdict, told, eventsOf, bounceOf, withBounce, stepOf, laid, buffered}
-use Rattle.debounce.specs.Settles.{updateOf, toldBy, bufferBy, after, Fresh, standing, settled, eventsTo, Settles, SettlesAll}
+use Rattle.debounce.specs.Settles.{updateOf, toldBy, bufferBy, after, Fresh, standing, settled, eventsTo, SettlesAll}
 use Rattle.debounce.specs.declared.Debouncer.{Debouncer}
 use Rattle.debounce.specs.declared.Verdict.the-variants.{Fine}
 use Rattle.debounce.specs.declared.Update.the-variants.{Changed}

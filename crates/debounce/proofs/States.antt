@@ -3,7 +3,7 @@
 use Prim.Native.Nat.{ℕ, _*_, _<_, _≤_}
 use mathlib.Core.Bool.{Bool, true, false, _&&_}
 use mathlib.Core.List.{List}
-use mathlib.Core.Path.{_≡_, refl, sym, _∙_}
+use mathlib.Core.Path.{_≡_, refl}
 use native.Mathlib.Nat.{mul-le-mul}
 use native.Mathlib.Omega.{arith}
 use borrow.Author.Tests.{leb-true, ltb-true, eqb-true}
@@ -16,7 +16,7 @@ use Rattle.debounce.specs.Picture.{binary, isPicture, isScan}
 use Rattle.debounce.specs.Calls.{switches, sizesGood, bounceGood, stateGood, rule, makingVerdict, updateVerdict, eventsVerdict}
 use Rattle.debounce.specs.declared.Debouncer.{Debouncer}
 use Rattle.debounce.specs.declared.Verdict.{Verdict}
-use Rattle.debounce.specs.declared.Verdict.the-variants.{Fine, Refused}
+use Rattle.debounce.specs.declared.Verdict.the-variants.{Fine}
 
 pub record Sized (rows columns nb : ℕ) : Type 0 where
   pub some-rows : 1 ≤ rows

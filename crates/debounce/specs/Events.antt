@@ -1,6 +1,6 @@
 -- The events between two pictures: document 01, Debounce, row by row, then by column. Assumes nothing.
 use Prim.Native.Nat.{ℕ, _+_, _/_, _%_}
-use mathlib.Core.Bool.{Bool, cond}
+use mathlib.Core.Bool.{cond}
 use mathlib.Core.List.{List, [], _∷_, _++_}
 use lib.Dec.{eqb}
 use Rattle.event.specs.declared.Event.{Event}

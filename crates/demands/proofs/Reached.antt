@@ -25,7 +25,7 @@ use Rattle.layout.specs.Steps.{held, sum, current, pressed, release, act, into,
 use Rattle.layout.specs.declared.run.Way.the-variants.{Tap}
 use Rattle.layout.specs.declared.layout.Layout.{Layout}
 use Rattle.demands.specs.Runs.{Call, call, run, ticks, arrived}
-use Rattle.demands.specs.Words.{bound, downAfter, AllReleased}
+use Rattle.demands.specs.Words.{downAfter, AllReleased}
 use Rattle.demands.specs.OnLists.{drain, queuedAfter, Quiet}
 use Rattle.demands.specs.Demand3.{boundOf, Demand3, OfImages}
 use Rattle.demands.specs.Z.{zOf, lent}

@@ -1,13 +1,11 @@
 -- A run of the public calls over an accepted image, on a layout that was packed, is the run of the steps on its lists.
 -- Assumes nothing.
 use Prim.Native.Nat.{ℕ, _≤_}
-use mathlib.Core.Path.{_≡_, refl, ap, ap₂, _∙_}
-use mathlib.Core.Bool.{true}
+use mathlib.Core.Path.{_≡_, refl, ap, ap₂}
 use mathlib.Core.List.{List, [], _∷_, _++_}
 use native.Mathlib.Omega.{arith}
 use borrow.Author.Tests.{le-leb}
-use lib.Dec.{eqb}
-use lib.ListN.{length, drop, take, length-append, length-drop}
+use lib.ListN.{length, drop, length-append, length-drop}
 use lib.Seq.{take-at}
 use Rattle.lists.specs.Lists.{every}
 use Rattle.image.specs.Check.{checkOf}
@@ -16,14 +14,13 @@ use Rattle.image.specs.Table.{tableOf}
 use Rattle.image.specs.declared.words.Shape.{Shape}
 use Rattle.image.specs.declared.rules.Checked.the-variants.{Accepted}
 use Rattle.image.proofs.Accepted.{accepted}
-use Rattle.layout.specs.Model.{Model, Mark, Done, fresh}
+use Rattle.layout.specs.Model.{Model, Done, fresh}
 use Rattle.layout.specs.Steps.{event, tick, codes}
 use Rattle.layout.specs.Packed.{laid, noNotes, noted}
 use Rattle.layout.specs.Calls.{pack, rule, judgedBy, judgedOf, answerOf, layoutAfter, buffered}
 use Rattle.layout.specs.declared.run.State.{State}
 use Rattle.layout.specs.declared.run.State.the-variants.{NormalKey, LayerModifier}
 use Rattle.layout.specs.declared.run.Notes.{Notes}
-use Rattle.layout.specs.declared.layout.Layout.{Layout}
 use Rattle.layout.specs.declared.layout.Judged.the-variants as judged
 use Rattle.layout.specs.declared.layout.Answer.the-variants as answer
 use Rattle.layout.proofs.Lawful.{Lawful, event-lawful, tick-lawful, fresh-lawful}

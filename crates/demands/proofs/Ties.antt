@@ -1,22 +1,21 @@
 -- The live tie is hold, and the queued tie is tap. Assumes nothing.
 use Prim.Native.Nat.{ℕ, zero, suc, _+_, _-_}
 use mathlib.Core.Path.{_≡_, refl, _∙_}
-use mathlib.Core.Bool.{true, false, cond}
-use mathlib.Core.List.{List, [], _∷_}
+use mathlib.Core.Bool.{true}
+use mathlib.Core.List.{[], _∷_}
 use native.Mathlib.Omega.{arith}
 use borrow.Author.Tests.{le-leb, lt-leb}
-use lib.Dec.{leb}
 use Rattle.event.specs.declared.Coord.{Coord}
 use Rattle.event.specs.declared.Event.the-variants.{Press}
 use Rattle.image.specs.Legal.{closed}
 use Rattle.image.specs.Table.{Table}
 use Rattle.image.specs.Tree.{Action, HoldTap}
-use Rattle.layout.specs.Actions.{Now, verdict, find, doAction, decided}
+use Rattle.layout.specs.Actions.{verdict, find, doAction, decided}
 use Rattle.layout.specs.Model.{Model, Idle, Waits, fresh, withWaiting}
 use Rattle.layout.specs.Packed.{decisions}
 use Rattle.layout.specs.Steps.{event, entered, released, tick, ticked, into, act, pressed, current, held}
-use Rattle.layout.specs.declared.queue.Found.the-variants.{None, At}
-use Rattle.layout.specs.declared.run.Way.the-variants.{Tap, Hold}
+use Rattle.layout.specs.declared.queue.Found.the-variants.{None}
+use Rattle.layout.specs.declared.run.Way.the-variants.{Hold}
 use Rattle.demands.specs.Runs.{Enter, call, run, ticks}
 use Rattle.demands.specs.Ties.{LiveTie, QueuedTie}
 use Rattle.demands.proofs.Actions.{kept}

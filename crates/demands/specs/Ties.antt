@@ -16,7 +16,7 @@ use Rattle.layout.specs.Packed.{decisions}
 use Rattle.layout.specs.declared.queue.Found.the-variants.{At}
 use Rattle.layout.specs.declared.run.Way.{Way}
 use Rattle.layout.specs.declared.run.Way.the-variants.{Tap, Hold}
-use Rattle.demands.specs.Runs.{Call, Enter, run, ticks}
+use Rattle.demands.specs.Runs.{Enter, run, ticks}
 
 -- the decisions of a press on a fresh layout, and so many ticks
 abbrev pub decidedBy : Table → ℕ → ℕ → ℕ → List (Coord × Way)

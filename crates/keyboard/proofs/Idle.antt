@@ -1,12 +1,12 @@
 -- What a user wants of the idle clock: at rate n, from the start of a period and with no change and no Set_Idle, a report is due at
 -- every 4n-th clock call and at no other; at rate 0 at none. Assumes nothing.
-use Prim.Native.Nat.{ℕ, zero, suc, _+_, _*_, _%_, _<_, _≤_, min}
+use Prim.Native.Nat.{ℕ, zero, suc, _+_, _*_, _%_, _<_, _≤_}
 use mathlib.Core.Bool.{Bool, true, false}
 use mathlib.Core.Path.{_≡_, refl, sym, ap, _∙_}
 use native.Mathlib.Nat.{zero-mod, mod-lt, suc-mod, mod-self, mod-eq-of-lt, min-eq-left}
 use native.Mathlib.Numerals.{add-one}
 use native.Mathlib.Omega.{arith}
-use borrow.Author.Tests.{ne-eqb, eq-eqb, le-leb, lt-leb, leb-true, leb-false}
+use borrow.Author.Tests.{ne-eqb, le-leb, lt-leb, leb-true, leb-false}
 use lib.Dec.{eqb, leb}
 use Rattle.keyboard.specs.Keyboard.{withIdle, clocked}
 use Rattle.keyboard.specs.declared.Keyboard.{Keyboard}

@@ -29,7 +29,7 @@ use denote.Memory.{mem, pointee}
 use denote.Ref.{RefT, MutRef, now, ptr-vals, mut-tells}
 use denote.Builtin.{u8}
 use denote.Slice.{sliceName, slice-vals, ShrSlice, shr-slice-tells, shr-slice-lawful, shr-slice-copy}
-use denote.Signature.{Signature, plain, mutRefTo, shrSliceOf}
+use denote.Signature.{plain, mutRefTo, shrSliceOf}
 use denote.Steps.{only, opens, closes, owned, peeks, heard, nothing}
 use denote.Struct.Steps.{spelt}
 use denote.Struct.Laws as LL

@@ -12,7 +12,6 @@ use Rattle.codes.specs.declared.report.KbHidReport.{KbHidReport}
 use Rattle.keyboard.specs.Hid111.{input, output}
 use Rattle.keyboard.specs.declared.Keyboard.{Keyboard}
 use Rattle.keyboard.specs.declared.Changed.{Changed}
-use Rattle.keyboard.specs.declared.Got.{Got}
 use Rattle.keyboard.specs.declared.Fetched.{Fetched}
 use Rattle.keyboard.specs.declared.Answered.{Answered}
 use Rattle.keyboard.specs.declared.Clocked.{Clocked}

@@ -1,18 +1,16 @@
 -- What the functions' proofs share: a digit, a word by its length, the first space. Assumes nothing.
 use Prim.Native.Nat.{ℕ, suc, _+_, _-_, _*_, _<_, _≤_}
-use mathlib.Core.Bool.{Bool, true, false, cond, _&&_}
+use mathlib.Core.Bool.{Bool, true, false, _&&_}
 use mathlib.Core.List.{List, [], _∷_}
 use mathlib.Core.Path.{_≡_, refl, sym, ap, _∙_}
 use native.Mathlib.Numerals.{add-one}
 use native.Mathlib.Omega.{arith}
 use borrow.Author.Tests.{ne-eqb, le-leb, lt-leb}
-use lib.Dec.{leb, eqb}
+use lib.Dec.{eqb}
 use lib.ListN.{length, getD, take, drop, length-drop, drop-of-length-le}
 use lib.Seq.{drop-cons, take-length}
 use Rattle.lines.specs.Line.{digitOf, valueOf, spaceAt, pair, coordsOf, pressAt, releaseAt, opens, lineOf}
-use Rattle.lines.specs.declared.Coords.{Coords}
 use Rattle.lines.specs.declared.Coords.the-variants.{At, Nowhere}
-use Rattle.lines.specs.declared.Line.{Line}
 use Rattle.lines.specs.declared.Line.the-variants.{Tick, Unread}
 
 pub digit-is : (c : ℕ) → 48 ≤ c → c ≤ 57 → digitOf c ≡ c - 48

@@ -6,7 +6,6 @@ use mathlib.Core.Bool.{Bool, cond, _&&_}
 use mathlib.Core.List.{List, [], _∷_}
 use lib.Dec.{eqb, leb}
 use lib.ListN.{length, getD, take, drop}
-use Rattle.event.specs.declared.Event.{Event}
 use Rattle.event.specs.declared.Event.the-variants.{Press, Release}
 use Rattle.lines.specs.declared.Coords.{Coords}
 use Rattle.lines.specs.declared.Coords.the-variants.{At, Nowhere}

@@ -1,6 +1,6 @@
 -- `debounce::are_binary` meets its contract: each place so far is 0 or 1, so those that are left decide. Assumes nothing.
 use borrow.Author.Needs.{needs}
-use Prim.Native.Nat.{_-_, _<_, _≤_}
+use Prim.Native.Nat.{_-_, _<_}
 use mathlib.Core.Path.{_≡_, refl, sym, _∙_}
 use borrow.Author.Tests.{ltb-true, ltb-false, le-leb, lt-leb}
 use lib.ListN.{length, take, drop, getD, length-take}

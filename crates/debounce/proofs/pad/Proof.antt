@@ -1,8 +1,8 @@
 -- `debounce::pad` meets its contract: so many bytes of the scan, and zeros. Assumes nothing.
 use borrow.Author.Needs.{needs}
-use Prim.Native.Nat.{_-_, _<_, _≤_}
+use Prim.Native.Nat.{_-_, _≤_}
 use mathlib.Core.List.{_++_}
-use mathlib.Core.Path.{_≡_, refl, sym, _∙_}
+use mathlib.Core.Path.{_≡_, _∙_}
 use lib.ListN.{length, take, replicate, length-set}
 use lib.Seq.{take-length}
 use native.Mathlib.Omega.{arith}

@@ -1,5 +1,4 @@
 -- `debounce::sizes_good` meets its contract. Assumes nothing.
-use borrow.Author.Needs.{needs}
 use borrow.Author.Tests.{le-leb, lt-leb}
 use Rattle.debounce.specs.Calls.{sizesGood}
 use Rattle.debounce.proofs.sizes_good.Statement.{statement}

@@ -1,10 +1,10 @@
 -- `debounce::tell` meets its contract. The loop's invariant: the bytes so far, with those of the events from this place on, are the bytes of all events, and past them the buffer is as it was. Assumes nothing.
 use borrow.Author.Needs.{needs}
-use Prim.Native.Nat.{ℕ, _+_, _*_, _-_, _<_, _≤_}
-use mathlib.Core.List.{List, [], _++_, append-nil}
+use Prim.Native.Nat.{_+_, _*_, _-_, _≤_}
+use mathlib.Core.List.{List, _++_}
 use mathlib.Core.Path.{_≡_, refl, sym, ap, _∙_}
-use lib.ListN.{length, take, drop, getD, length-take}
-use lib.Seq.{getD-take, length-take-le, length-sets}
+use lib.ListN.{length, take, drop, length-take}
+use lib.Seq.{getD-take}
 use native.Mathlib.Omega.{arith}
 use Rattle.event.specs.declared.Event.{Event}
 use Rattle.debounce.specs.Events.{changes, written}

@@ -1,6 +1,6 @@
 -- `debounce::tell_step` meets its contract: no change, no events; else those between the two pictures. Assumes nothing.
 use borrow.Author.Needs.{needs}
-use mathlib.Core.Path.{_≡_, refl, sym, ap, _∙_}
+use mathlib.Core.Path.{refl}
 use borrow.Author.Tests.{not-true, not-false}
 use Rattle.debounce.specs.Events.{written}
 use Rattle.debounce.proofs.tell_step.Statement.{statement}

@@ -1,6 +1,6 @@
 -- `lines::value` meets its contract: a word by its length. Assumes nothing.
 use borrow.Author.Needs.{needs}
-use mathlib.Core.Path.{_≡_, sym, _∙_}
+use mathlib.Core.Path.{sym}
 use denote.Ref.{now}
 use native.Mathlib.Omega.{arith}
 use Rattle.lines.proofs.Laws.{value-one, value-two, value-three, value-none}

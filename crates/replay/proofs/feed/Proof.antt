@@ -1,6 +1,6 @@
 -- `replay::feed` is safe and ends: the next line starts past this one. Assumes nothing.
 use borrow.Author.Needs.{needs}
-use Prim.Native.Nat.{_≤_, _+_, _-_}
+use Prim.Native.Nat.{_+_, _-_}
 use mathlib.Core.Path.{_≡_}
 use lib.ListN.{length}
 use Rattle.replay.proofs.feed.Statement.{statement}

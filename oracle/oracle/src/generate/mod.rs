@@ -14,6 +14,7 @@ mod grow;
 mod image;
 mod keyboard;
 mod layout;
+mod page;
 mod spoil;
 mod states;
 mod tally;

@@ -1,7 +1,6 @@
 -- `debounce::Debouncer::events` meets its contract, in each case of the verdict. Assumes nothing.
 use borrow.Author.Needs.{needs}
-use mathlib.Core.Path.{_≡_, refl, sym, ap, _∙_}
-use native.Mathlib.Omega.{arith}
+use mathlib.Core.Path.{refl, sym, _∙_}
 use Rattle.debounce.specs.Calls.{told, eventsOf, buffered}
 use Rattle.debounce.proofs.States.{events-fine}
 use Rattle.debounce.proofs.Debouncer.events.Statement.{statement}

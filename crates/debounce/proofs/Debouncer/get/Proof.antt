@@ -1,8 +1,8 @@
 -- `debounce::Debouncer::get` meets its contract. Assumes nothing.
 use borrow.Author.Needs.{needs}
-use mathlib.Core.Path.{_≡_, refl, sym, ap, _∙_}
-use borrow.Author.Tests.{not-true, not-false, le-leb, lt-leb}
-use Rattle.debounce.specs.Calls.{stateGood, rule, makingVerdict, getVerdict, updateVerdict, eventsVerdict, made, got, updated, told, buffered}
+use mathlib.Core.Path.{sym, _∙_}
+use borrow.Author.Tests.{not-true, not-false}
+use Rattle.debounce.specs.Calls.{rule, getVerdict, got}
 use Rattle.debounce.proofs.Debouncer.get.Statement.{statement}
 use Rattle.debounce.proofs.Debouncer.get.Tie as tie
 

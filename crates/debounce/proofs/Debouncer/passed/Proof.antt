@@ -1,5 +1,4 @@
 -- `debounce::Debouncer::passed` meets its contract. Assumes nothing.
-use borrow.Author.Needs.{needs}
 use borrow.Author.Tests.{lt-ltb, le-ltb}
 use native.Mathlib.Omega.{arith}
 use Rattle.debounce.specs.Step as bounce

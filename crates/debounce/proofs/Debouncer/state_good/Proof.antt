@@ -1,10 +1,10 @@
 -- `debounce::Debouncer::state_good` meets its contract: at each return the tests so far decide `stateGood`. Assumes nothing.
 use borrow.Author.Needs.{needs}
-use mathlib.Core.Path.{_≡_, refl, sym, ap, _∙_}
+use mathlib.Core.Path.{sym, _∙_}
 use borrow.Author.Tests.{not-true, not-false, le-leb, lt-leb}
 use native.Mathlib.Omega.{arith}
-use Rattle.debounce.proofs.States.{sized, legal, making-fine, update-fine, events-fine}
-use Rattle.debounce.specs.Calls.{stateGood, rule, makingVerdict, getVerdict, updateVerdict, eventsVerdict, made, got, updated, told, buffered}
+use Rattle.debounce.proofs.States.{sized}
+use Rattle.debounce.specs.Calls.{stateGood}
 use Rattle.debounce.proofs.Debouncer.state_good.Statement.{statement}
 use Rattle.debounce.proofs.Debouncer.state_good.Tie as tie
 

@@ -2,7 +2,7 @@
 use Prim.Native.Nat.{_*_, _+_, _<_, _≤_, ℕ}
 use Rattle.image.proofs.Laws.{ready-lower, row-head, row-none, row-on, row-tail}
 use Rattle.image.specs.Tree.{named, tree, weight, weights}
-use Rattle.image.specs.Words.{wordAt, wordsFrom}
+use Rattle.image.specs.Words.{wordsFrom}
 use Rattle.lists.specs.Lists.{every}
 use borrow.Author.Needs.{needs}
 use borrow.Author.Tests.{ltb-true}
@@ -11,7 +11,7 @@ use lib.Dec.{ltb}
 use lib.ListN.{length}
 use mathlib.Core.Bool.{true}
 use mathlib.Core.Logic.{⊎-elim}
-use mathlib.Core.Path.{_∙_, _≡_, ap, refl, sym}
+use mathlib.Core.Path.{_≡_, ap}
 use native.Mathlib.Omega.{arith}
 use borrow.Fn.Kinds.{In}
 use borrow.Fn.PlainCycle.{Measures, is, falls, and}

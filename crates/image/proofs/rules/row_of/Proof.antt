@@ -1,11 +1,10 @@
 -- `image::rules::row_of` meets its contract, kind by kind. Assumes nothing.
 use Prim.Native.Nat.{_+_, _≤_}
 use Rattle.image.proofs.Laws.{action-inside, alone-row, many-row, pair-row, weight-codes, weight-one}
-use Rattle.image.specs.Record.{actionAt, actionOf}
+use Rattle.image.specs.Record.{actionOf}
 use Rattle.image.specs.declared.record.Action.the-variants as code
 use borrow.Author.Needs.{needs}
-use denote.Ref.{now}
-use mathlib.Core.Path.{_∙_, _≡_, ap, sym}
+use mathlib.Core.Path.{_∙_, ap, sym}
 use native.Mathlib.Omega.{arith}
 use Rattle.image.proofs.rules.row_of.Statement.{statement}
 use Rattle.image.proofs.rules.row_of.Tie as tie

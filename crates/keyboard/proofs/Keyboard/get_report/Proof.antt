@@ -1,5 +1,4 @@
 -- `keyboard::Keyboard::get_report` meets its contract. Assumes nothing.
-use borrow.Author.Needs.{needs}
 use borrow.Author.Tests.{eq-eqb, ne-eqb}
 use Rattle.keyboard.specs.Keyboard.{fetched}
 use Rattle.keyboard.proofs.Keyboard.get_report.Statement.{statement}

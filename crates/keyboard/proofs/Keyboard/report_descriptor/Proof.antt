@@ -1,5 +1,4 @@
 -- `keyboard::Keyboard::report_descriptor` meets its contract. Assumes nothing.
-use borrow.Author.Needs.{needs}
 use mathlib.Core.Path.{refl}
 use Rattle.keyboard.specs.Keyboard.{descriptor}
 use Rattle.keyboard.proofs.Keyboard.report_descriptor.Statement.{statement}

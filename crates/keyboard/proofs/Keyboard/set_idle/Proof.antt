@@ -1,5 +1,4 @@
 -- `keyboard::Keyboard::set_idle` meets its contract. Assumes nothing.
-use borrow.Author.Needs.{needs}
 use mathlib.Core.Path.{refl}
 use Rattle.keyboard.specs.Keyboard.{idled}
 use Rattle.keyboard.proofs.Keyboard.set_idle.Statement.{statement}

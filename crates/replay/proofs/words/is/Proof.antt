@@ -1,6 +1,6 @@
 -- `replay::words::is` is safe and ends. Assumes nothing.
 use borrow.Author.Needs.{needs}
-use Prim.Native.Nat.{_≤_, _-_, _*_}
+use Prim.Native.Nat.{_≤_, _-_}
 use lib.ListN.{length}
 use Rattle.replay.proofs.words.is.Statement.{statement}
 use Rattle.replay.proofs.words.is.Tie as tie

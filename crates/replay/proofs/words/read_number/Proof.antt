@@ -1,6 +1,6 @@
 -- `replay::words::read_number` is safe and ends. Assumes nothing.
 use borrow.Author.Needs.{needs}
-use Prim.Native.Nat.{_≤_, _-_, _*_}
+use Prim.Native.Nat.{_≤_, _-_}
 use lib.ListN.{length}
 use Rattle.replay.proofs.words.read_number.Statement.{statement}
 use Rattle.replay.proofs.words.read_number.Tie as tie

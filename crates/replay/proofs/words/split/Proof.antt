@@ -1,6 +1,6 @@
 -- `replay::words::split` is safe and ends. Assumes nothing.
 use borrow.Author.Needs.{needs}
-use Prim.Native.Nat.{_≤_, _-_, _*_}
+use Prim.Native.Nat.{_≤_, _-_}
 use lib.ListN.{length}
 use Rattle.replay.proofs.words.split.Statement.{statement}
 use Rattle.replay.proofs.words.split.Tie as tie

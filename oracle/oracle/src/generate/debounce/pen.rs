@@ -3,8 +3,8 @@
 //!
 //! Assumes: the paper's steps are those of both sides; where they are not, the comparison tells.
 
+use super::super::page::Page;
 use super::super::tally::Tally;
-use super::super::BYTES_A_SCRIPT;
 use crate::paper::debounce::{Debouncer, BOUNCE, EVENT, PLACES, SCAN};
 use crate::paper::{ROOM, STATE};
 use crate::random::Random;
@@ -56,8 +56,7 @@ pub struct Pen {
     pub debouncer: Debouncer,
     set: bool,
     space: usize,
-    lines: Vec<Vec<u8>>,
-    bytes: usize,
+    page: Page,
 }
 
 impl Pen {
@@ -68,29 +67,27 @@ impl Pen {
             debouncer: Debouncer::default(),
             set: false,
             space: FULL_SPACE,
-            lines: Vec::new(),
-            bytes: 0,
+            page: Page::default(),
         }
     }
 
     pub fn lines(&self) -> usize {
-        self.lines.len()
+        self.page.lines()
     }
 
     pub fn is_full(&self) -> bool {
-        self.bytes >= BYTES_A_SCRIPT
+        self.page.is_full()
     }
 
     /// The script written so far; the next one starts as every script does.
     pub fn script(&mut self) -> Script {
         (self.debouncer, self.set) = (Debouncer::default(), false);
-        (self.space, self.bytes) = (FULL_SPACE, 0);
-        Script::new(std::mem::take(&mut self.lines))
+        self.space = FULL_SPACE;
+        self.page.script()
     }
 
     fn write(&mut self, line: String) {
-        self.bytes += line.len();
-        self.lines.push(line.into_bytes());
+        self.page.write(&line);
     }
 
     /// A line of which nothing is counted, and which is not stepped beside.

@@ -3,7 +3,7 @@
 //!
 //! Assumes: the paper's steps are those of both sides; where they are not, the comparison tells.
 
-use super::super::BYTES_A_SCRIPT;
+use super::super::page::Page;
 use super::counts::{Counts, Situation};
 use crate::paper::calls::{Call, Given};
 use crate::paper::image::Parts;
@@ -27,8 +27,7 @@ pub struct Pen {
     pub down: BTreeSet<Coord>,
     /// How many ticks the hold-tap that waits has waited.
     waited: usize,
-    lines: Vec<Vec<u8>>,
-    bytes: usize,
+    page: Page,
 }
 
 impl Pen {
@@ -39,31 +38,28 @@ impl Pen {
             given: Given::default(),
             down: BTreeSet::new(),
             waited: 0,
-            lines: Vec::new(),
-            bytes: 0,
+            page: Page::default(),
         }
     }
 
     pub fn lines(&self) -> usize {
-        self.lines.len()
+        self.page.lines()
     }
 
     pub fn is_full(&self) -> bool {
-        self.bytes >= BYTES_A_SCRIPT || self.lines.len() >= LINES_A_SCRIPT
+        self.page.is_full() || self.page.lines() >= LINES_A_SCRIPT
     }
 
     /// The script written so far; the next one starts as every script does.
     pub fn script(&mut self) -> Script {
         self.given = Given::default();
         self.down.clear();
-        self.bytes = 0;
-        Script::new(std::mem::take(&mut self.lines))
+        self.page.script()
     }
 
     /// A line that is not stepped beside, and of which nothing is counted.
     pub fn write(&mut self, line: &str) {
-        self.bytes += line.len();
-        self.lines.push(line.as_bytes().to_vec());
+        self.page.write(line);
     }
 
     pub fn image(&mut self, bytes: &[u8]) {

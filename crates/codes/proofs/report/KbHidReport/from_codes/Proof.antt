@@ -1,15 +1,14 @@
 -- `codes::KbHidReport::from_codes` meets its contract. The loop's invariant: the report so far, with the codes that are left, is
 -- the report of all of them. Assumes nothing.
-use Prim.Native.Nat.{ℕ, _+_, _-_, _<_, _≤_}
+use Prim.Native.Nat.{ℕ, _-_, _<_, _≤_}
 use mathlib.Core.List.{List}
-use mathlib.Core.Path.{_≡_, refl, sym, ap, _∙_}
+use mathlib.Core.Path.{_≡_, sym, ap, _∙_}
 use borrow.Author.Needs.{needs}
 use borrow.Author.Tests.{ltb-true, ltb-false}
 use lib.ListN.{length, take, drop, length-take}
 use lib.Seq.{getD-take}
 use native.Mathlib.Omega.{arith}
 use Rattle.codes.specs.Report.{withCodes, reportOf}
-use Rattle.codes.specs.declared.report.KbHidReport.{KbHidReport}
 use Rattle.codes.proofs.Laws.{codes-on, codes-none}
 use Rattle.codes.proofs.report.KbHidReport.from_codes.Statement.{statement}
 use Rattle.codes.proofs.report.KbHidReport.from_codes.Tie as tie

@@ -1,14 +1,10 @@
 -- `codes::KbHidReport::pressed` meets its contract: each return is one case of `pressedOf`. Assumes nothing.
-use Prim.Native.Nat.{_+_, _-_, _<_, _≤_}
-use mathlib.Core.Bool.{Bool, false}
-use mathlib.Core.List.{_++_, List}
-use mathlib.Core.Path.{_≡_, sym, ap, _∙_}
+use Prim.Native.Nat.{_-_, _<_, _≤_}
+use mathlib.Core.Path.{_≡_, sym, _∙_}
 use borrow.Author.Needs.{needs}
-use lib.ListN.{length, drop, take, take-append-drop, length-drop}
+use lib.ListN.{length, drop, take-append-drop, length-drop}
 use native.Mathlib.Omega.{arith}
-use Rattle.codes.specs.Codes.{modifier}
-use Rattle.codes.specs.Report.{freePlace, pressedOf}
-use Rattle.codes.specs.declared.report.KbHidReport.{KbHidReport}
+use Rattle.codes.specs.Report.{freePlace}
 use Rattle.codes.proofs.Laws.{press-modifier, press-key, keyed-none, keyed-filled, keyed-placed, placed-free, placed-full, set-behind}
 use Rattle.codes.proofs.report.KbHidReport.pressed.Statement.{statement}
 use Rattle.codes.proofs.report.KbHidReport.pressed.Tie as tie
