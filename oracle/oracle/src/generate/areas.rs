@@ -171,6 +171,7 @@ fn cut(mut image: Vec<u8>, random: &mut Random) -> Vec<u8> {
 #[cfg(test)]
 mod tests {
     use super::*;
+    use crate::generate::all;
     use crate::paper::areas::stretch;
     use crate::words::LONGEST;
     use std::collections::BTreeSet;
@@ -209,7 +210,7 @@ mod tests {
     #[test]
     fn answers_of_each_sort_occur() {
         let mut pairs = Pairs::new(50_000, 3);
-        let scripts: Vec<Script> = std::iter::from_fn(|| pairs.next()).collect();
+        let scripts = all(&mut pairs);
         assert_eq!(pairs.made, 10_000);
         assert!(pairs.operator > 800 && pairs.built_in > 800);
         for number in OF_IMAGES {

@@ -206,12 +206,13 @@ fn pair(random: &mut Random) -> [u8; 2] {
 mod tests {
     use super::super::tally::OF_IMAGES;
     use super::*;
+    use crate::generate::all;
 
     const IMAGES: usize = 50_000;
 
     fn run(n: usize, seed: u64) -> (Images, Vec<Script>) {
         let mut images = Images::new(n, seed);
-        let scripts = std::iter::from_fn(|| images.next()).collect();
+        let scripts = all(&mut images);
         (images, scripts)
     }
 

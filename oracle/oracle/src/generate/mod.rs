@@ -71,6 +71,19 @@ pub fn lively_image(random: &mut crate::random::Random) -> Vec<u8> {
     layout::tables::lively(random).bytes()
 }
 
+/// All scripts of a comparison.
+#[cfg(test)]
+fn all(kind: &mut dyn Kind) -> Vec<Script> {
+    std::iter::from_fn(|| kind.next()).collect()
+}
+
+/// How many answers start so.
+#[cfg(test)]
+fn starting(answers: &[String], with: &str) -> usize {
+    let found = answers.iter().filter(|answer| answer.starts_with(with));
+    found.count()
+}
+
 /// How many bytes of long lines a script has, about.
 const BYTES_A_SCRIPT: usize = 20_000_000;
 

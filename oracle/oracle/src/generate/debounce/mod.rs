@@ -252,15 +252,12 @@ fn opening(pen: &mut Pen) -> Script {
 mod tests {
     use super::*;
     use crate::both::MARK;
+    use crate::generate::{all, starting};
     use crate::paper::debounce::{BOUNCE, SCAN};
     use crate::paper::{ROOM, STATE};
     use crate::replay::answers;
 
     const SCANS: usize = 60_000;
-
-    fn all(scans: &mut Scans) -> Vec<Script> {
-        std::iter::from_fn(|| scans.next()).collect()
-    }
 
     #[test]
     fn all_shapes_and_refusals_occur() {
@@ -281,10 +278,6 @@ mod tests {
     fn rust_and_paper_agree_and_the_counts_are_true() {
         let mut scans = Scans::new(SCANS, 2);
         let scripts = all(&mut scans);
-        let starting = |answers: &[String], with: &str| {
-            let found = answers.iter().filter(|answer| answer.starts_with(with));
-            found.count()
-        };
         let counts = &scans.pen.counts;
         let opening = answers(&scripts[0]);
         assert_eq!(starting(&opening, MARK), 0);

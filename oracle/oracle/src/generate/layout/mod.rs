@@ -237,13 +237,10 @@ mod tests {
     use super::counts::Situation;
     use super::*;
     use crate::both::MARK;
+    use crate::generate::{all, starting};
     use crate::replay::answers;
 
     const CALLS: usize = 60_000;
-
-    fn all(traces: &mut Traces) -> Vec<Script> {
-        std::iter::from_fn(|| traces.next()).collect()
-    }
 
     #[test]
     fn every_situation_occurs() {
@@ -263,10 +260,6 @@ mod tests {
     fn rust_and_paper_agree_and_the_counts_are_true() {
         let mut traces = Traces::new(CALLS, 2);
         let scripts = all(&mut traces);
-        let starting = |answers: &[String], with: &str| {
-            let found = answers.iter().filter(|answer| answer.starts_with(with));
-            found.count()
-        };
         let opening = answers(&scripts[0]);
         assert_eq!(starting(&opening, MARK), 0);
         assert_eq!(starting(&opening, "?"), MISWRITTEN.len());

@@ -266,6 +266,7 @@ fn call(pen: &mut Pen) -> u8 {
 mod tests {
     use super::*;
     use crate::both::MARK;
+    use crate::generate::all;
     use crate::replay::answers;
 
     const N: usize = 60_000;
@@ -273,7 +274,7 @@ mod tests {
     #[test]
     fn every_cause_and_every_refusal_occurs() {
         let mut states = States::new(N, 1);
-        let scripts: Vec<Script> = std::iter::from_fn(|| states.next()).collect();
+        let scripts = all(&mut states);
         let counts = &states.counts;
         assert_eq!(counts.all(), N / SHARE);
         assert!(counts.legal > 500 && counts.illegal > 500 && counts.hidden > 100);
