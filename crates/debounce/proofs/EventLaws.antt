@@ -6,12 +6,11 @@ use mathlib.Core.Path.{_≡_, refl, sym, ap, _∙_}
 use native.Mathlib.Numerals.{add-one}
 use native.Mathlib.Omega.{arith}
 use lib.Dec.{eqb}
-use lib.ListN.{length, take, drop, getD, length-append, drop-of-length-le, take-append-drop}
+use lib.ListN.{length, take, drop, getD, length-append, drop-of-length-le}
 use lib.Seq.{drop-cons, drop-drop, length-take-le, sets, sets-eq, length-sets, take-at, drop-at}
 use Rattle.event.specs.declared.Event.{Event}
 use Rattle.event.specs.declared.Event.the-variants.{Release, Press}
 use Rattle.event.specs.Bytes.{bytesOf}
-use Rattle.debounce.specs.Calls.{laid}
 use Rattle.debounce.specs.Events.{changeAt, changes, written}
 
 -- from a place on: what changed there, and then from the next place on
@@ -66,10 +65,6 @@ put-behind out out₀ bytes rest all k room so-far past =
       append-assoc (take k out) bytes rest ∙ so-far,
       sym (drop-drop (length bytes) k out) ∙ ap (λ (l : List ℕ). drop (length bytes) l) past ∙ drop-drop (length bytes) k out₀,
     )
-
--- all of them in the buffer
-pub all-laid : (out out₀ bytes : List ℕ) (k : ℕ) → k ≡ length bytes → take k out ≡ bytes → drop k out ≡ drop k out₀ → out ≡ laid bytes out₀
-all-laid out out₀ bytes k long so-far past = sym (take-append-drop k out) ∙ rw (so-far, past, long)
 
 -- one turn of the loop that tells the events: the place's event, if any, behind those that stand in the buffer
 pub tell-turn : (columns place told told′ : ℕ) (before after out out₀ out′ : List ℕ) (all : List Event)

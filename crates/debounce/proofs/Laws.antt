@@ -1,14 +1,33 @@
 -- Laws of pictures: two places on, a scan laid into its places, the first places and the rest. Assumes nothing.
 use Prim.Native.Nat.{ℕ, suc, _+_, _-_, _<_, _≤_}
-use mathlib.Core.List.{List, _++_}
-use mathlib.Core.Path.{_≡_}
+use mathlib.Core.Bool.{true, _&&_}
+use mathlib.Core.List.{List, [], _∷_, _++_}
+use mathlib.Core.Path.{_≡_, refl, sym, ap, _∙_}
 use native.Mathlib.Numerals.{add-one, add-two}
 use native.Mathlib.Omega.{arith}
-use lib.ListN.{length, take, getD, set, replicate}
+use borrow.Author.Tests.{eqb-true}
+use lib.ListN.{length, take, drop, getD, set, replicate, take-append-drop}
 use lib.Seq.{take-suc, set-at, length-take-le, append-snoc, sets}
+use Rattle.lists.specs.Lists.{every}
+use Rattle.lists.proofs.Laws.{both-true, every-split}
+use Rattle.debounce.specs.Picture.{binary, unused, isPicture}
 use Rattle.event.specs.declared.Event.{Event}
 use Rattle.event.specs.declared.Event.the-variants.{Release, Press}
 use Rattle.event.specs.Bytes.{bytesOf}
+
+-- an unused place is 0, so where all from n on are unused the others decide whether all are 0 or 1
+unused-binary : (l : List ℕ) → every unused l ≡ true → every binary l ≡ true
+unfolding every
+unused-binary [] e = refl
+unused-binary (u ∷ l) e =
+    let h = both-true (unused u) (every unused l) e in
+    rw (eqb-true u 0 (h .0)) (unused-binary l (h .1))
+
+pub picture-binary : (n : ℕ) (l : List ℕ) → every unused (drop n l) ≡ true → isPicture n l ≡ every binary l
+unfolding isPicture
+picture-binary n l e =
+    ap (λ b. every binary (take n l) && b) (e ∙ sym (unused-binary (drop n l) e))
+    ∙ sym (every-split binary (take n l) (drop n l)) ∙ ap (every binary) (take-append-drop n l)
 
 -- so many bytes of a scan, and zeros to the 128th place: one byte more
 pub pad-on : (scan : List ℕ) (i : ℕ) → i < length scan → length scan ≤ 128

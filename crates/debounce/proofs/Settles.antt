@@ -8,12 +8,12 @@ use native.Mathlib.Numerals.{add-one}
 use native.Mathlib.Omega.{arith}
 use borrow.Author.Tests.{le-leb, lt-ltb, le-ltb}
 use lib.ListN.{length}
-use Rattle.lists.specs.Lists.{alike}
+use Rattle.lists.specs.Lists.{alike, laid}
 use Rattle.lists.proofs.Laws.{alike-is, alike-self}
 use Rattle.debounce.specs.Picture.{padded, isScan}
 use Rattle.debounce.specs.Step as bounce
 use Rattle.debounce.specs.Events.{written}
-use Rattle.debounce.specs.Calls.{switches, stateGood, rule, updateVerdict, updated, eventsVerdict, told, eventsOf, bounceOf, withBounce, stepOf, laid, buffered}
+use Rattle.debounce.specs.Calls.{switches, stateGood, rule, updateVerdict, updated, eventsVerdict, told, eventsOf, bounceOf, withBounce, stepOf, buffered}
 use Rattle.debounce.specs.Settles.{updateOf, toldBy, bufferBy, after, Fresh, standing, settled, eventsTo, SettlesAll}
 use Rattle.debounce.specs.declared.Debouncer.{Debouncer}
 use Rattle.debounce.specs.declared.Verdict.the-variants.{Fine}

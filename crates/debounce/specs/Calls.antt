@@ -2,14 +2,14 @@
 -- Assumes nothing.
 use Prim.Native.Nat.{ℕ, _*_}
 use mathlib.Core.Bool.{Bool, true, false, cond, _&&_}
-use mathlib.Core.List.{List, [], _++_}
+use mathlib.Core.List.{List, []}
 use lib.Dec.{leb, ltb}
-use lib.ListN.{length, take, drop}
+use lib.ListN.{length, take}
 use Rattle.refusal.specs.Number.{numberOf}
 use Rattle.refusal.specs.declared.Refusal.{Refusal}
 use Rattle.refusal.specs.declared.Refusal.the-variants.{Scan, Bounce, Room, State}
 use Rattle.event.specs.declared.Event.{Event}
-use Rattle.lists.specs.Lists.{alike}
+use Rattle.lists.specs.Lists.{alike, laid}
 use Rattle.debounce.specs.Picture.{allUp, padded, isPicture, isScan}
 use Rattle.debounce.specs.Step as bounce
 use Rattle.debounce.specs.Events.{changes, written}
@@ -109,10 +109,6 @@ unfoldable pub told : Verdict → Debouncer → List ℕ → Told
 told verdict.Fine d scan =
     record { telling = telling.Events (length (eventsOf d (stepOf d scan))); debouncer = withBounce d (stepOf d scan .bounce) }
 told (verdict.Refused refusal) d scan = record { telling = telling.Refused refusal; debouncer = d }
-
--- bytes laid over the start of a buffer, which keeps what is past them
-abbrev pub laid : List ℕ → List ℕ → List ℕ
-laid bytes buffer = bytes ++ drop (length bytes) buffer
 
 unfoldable pub buffered : Verdict → Debouncer → List ℕ → List ℕ → List ℕ
 buffered verdict.Fine d scan buffer = laid (written (eventsOf d (stepOf d scan))) buffer

@@ -7,9 +7,10 @@ use mathlib.Core.Logic.{_⊎_}
 use mathlib.Core.Path.{_≡_}
 use lib.ListN.{length, take}
 use Rattle.event.specs.declared.Event.{Event}
+use Rattle.lists.specs.Lists.{laid}
 use Rattle.debounce.specs.Picture.{padded, isScan}
 use Rattle.debounce.specs.Events.{changes, written}
-use Rattle.debounce.specs.Calls.{switches, stateGood, withBounce, updateVerdict, updated, eventsVerdict, told, laid, buffered}
+use Rattle.debounce.specs.Calls.{switches, stateGood, withBounce, updateVerdict, updated, eventsVerdict, told, buffered}
 use Rattle.debounce.specs.declared.Debouncer.{Debouncer}
 use Rattle.debounce.specs.declared.Update.the-variants.{Changed}
 use Rattle.debounce.specs.declared.Updated.{Updated}

@@ -9,12 +9,12 @@ ghost use mathlib.Core.Bool.{true};
 ghost use mathlib.Core.List.{_++_};
 ghost use lib.ListN.{length, take, drop};
 ghost use lib.Seq.{sets};
-ghost use Rattle.lists.specs.Lists.{alike, every};
+ghost use Rattle.lists.specs.Lists.{alike, every, laid};
 ghost use Rattle.event.specs.Bytes.{bytesOf};
 ghost use Rattle.debounce.specs.Picture.{padded, binary, unused, isPicture, isScan};
 ghost use Rattle.debounce.specs.Events.{eventAt, changeAt, changes, written};
 ghost use Rattle.debounce.specs.Step as bounce;
-ghost use Rattle.debounce.specs.Calls.{sizesGood, bounceGood, stateGood, switches, makingVerdict, getVerdict, updateVerdict, eventsVerdict, bounceOf, withBounce, made, got, updated, told, laid, buffered, numberIn, changeOf, countOf};
+ghost use Rattle.debounce.specs.Calls.{sizesGood, bounceGood, stateGood, switches, makingVerdict, getVerdict, updateVerdict, eventsVerdict, bounceOf, withBounce, made, got, updated, told, buffered, numberIn, changeOf, countOf};
 ghost use Rattle.debounce.specs.Inside.{stepOut, eventsIn};
 
 // The accepted picture, the candidate, for how many scans the candidate has stood, and the size. A switch that is down is
@@ -129,57 +129,62 @@ struct Step {
     debouncer: Debouncer,
 }
 
-// Whether each of the first n places is 0 or 1.
-fn are_binary(places: &[u8], n: usize) -> bool
-    ensures { λ r. ⌜ r ≡ every binary (take n (now (places .entry))) ⌝ }
+// Whether each place is 0 or 1. This loop and the next two go to the end whatever they find, so that the compiler can take
+// many places at once.
+fn are_binary(places: &[u8]) -> bool
+    ensures { λ r. ⌜ r ≡ every binary (now (places .entry)) ⌝ }
 {
+    let mut good = true;
     let mut i = 0;
-    while i < n && i < places.len() {
+    while i < places.len() {
         if 1 < places[i] {
-            return false;
+            good = false;
         }
         i += 1;
     }
-    true
+    good
 }
 
 // Whether each place from n on is 0.
 fn are_unused(places: &[u8], n: usize) -> bool
     ensures { λ r. ⌜ r ≡ every unused (drop n (now (places .entry))) ⌝ }
 {
+    let mut good = true;
     let mut i = n;
     while i < places.len() {
         if places[i] != 0 {
-            return false;
+            good = false;
         }
         i += 1;
     }
-    true
+    good
 }
 
 fn is_picture(places: [u8; 128], n: usize) -> bool
     ensures { λ r. ⌜ r ≡ isPicture n places ⌝ }
 {
-    are_binary(&places, n) && are_unused(&places, n)
+    are_unused(&places, n) && are_binary(&places)
 }
 
 fn is_scan(scan: &[u8], n: usize) -> bool
     ensures { λ r. ⌜ r ≡ isScan n (now (scan .entry)) ⌝ }
 {
-    scan.len() == n && are_binary(scan, n)
+    scan.len() == n && are_binary(scan)
 }
 
-fn are_alike(a: [u8; 128], b: [u8; 128]) -> bool
-    ensures { λ r. ⌜ r ≡ alike a b ⌝ }
+fn are_alike(a: &[u8], b: &[u8]) -> bool
+    requires { ⌜ length (now a) ≡ length (now b) ⌝ }
+    ensures { λ r. ⌜ r ≡ alike (now (a .entry)) (now (b .entry)) ⌝ }
 {
+    let mut good = true;
     let mut i = 0;
-    while i < 128 {
+    while i < a.len() {
         if a[i] != b[i] {
-            return false;
+            good = false;
         }
         i += 1;
     }
-    true
+    good
 }
 
 // A scan in its 128 places.
@@ -276,47 +281,38 @@ fn making_verdict(rows: usize, columns: usize, nb_bounce: u16, start: &[u8]) -> 
     Verdict::Fine
 }
 
-// The events of a step, in the buffer.
-fn tell_step(step: Step, out: &mut [u8]) -> Told
+// The events of a step, in the buffer, and how many.
+fn tell_step(step: Step, out: &mut [u8]) -> usize
     requires { ⌜ (0 < step .debouncer .columns) × (step .debouncer .columns ≤ 16) × (switches (step .debouncer) ≤ 128) × (3 * switches (step .debouncer) ≤ length (now out)) ⌝ }
-    ensures { λ r. ⌜ (r ≡ record { telling = Telling.Events (length (eventsIn step)); debouncer = step .debouncer }) × (now (out .exit) ≡ laid (written (eventsIn step)) (now (out .entry))) ⌝ }
+    ensures { λ r. ⌜ (r ≡ length (eventsIn step)) × (now (out .exit) ≡ laid (written (eventsIn step)) (now (out .entry))) ⌝ }
 {
-    let debouncer = step.debouncer;
     if !step.changed {
-        return Told {
-            telling: Telling::Events(0),
-            debouncer,
-        };
+        return 0;
     }
+    let debouncer = step.debouncer;
     let before = debouncer.new;
     let after = debouncer.cur;
     let n = debouncer.rows * debouncer.columns;
-    let told = tell(before, after, n, debouncer.columns, out);
-    Told {
-        telling: Telling::Events(told),
-        debouncer,
-    }
+    tell(before, after, n, debouncer.columns, out)
 }
 
 impl Debouncer {
     // A scan that differs from the accepted picture: it becomes the candidate, or has stood for one scan more.
-    fn grown(self, scan: [u8; 128]) -> Debouncer
+    fn grown(mut self, scan: [u8; 128]) -> Debouncer
         requires { ⌜ self .since < 65535 ⌝ }
         ensures { λ r. ⌜ r ≡ withBounce self (bounce.grown alike (self .«nb_bounce») (bounceOf self) scan) ⌝ }
     {
-        let new = self.new;
-        let mut out = self;
-        if are_alike(new, scan) {
-            out.since = self.since + 1;
-            return out;
+        if are_alike(&self.new, &scan) {
+            self.since += 1;
+            return self;
         }
-        out.new = scan;
-        out.since = 1;
-        out
+        self.new = scan;
+        self.since = 1;
+        self
     }
 
     // Once since passes nb_bounce the two pictures change places.
-    fn passed(self) -> Step
+    fn passed(mut self) -> Step
         ensures { λ r. ⌜ r ≡ stepOut self (bounce.passed alike (self .«nb_bounce») (bounceOf self)) ⌝ }
     {
         if self.since <= self.nb_bounce {
@@ -327,28 +323,25 @@ impl Debouncer {
         }
         let cur = self.cur;
         let new = self.new;
-        let mut out = self;
-        out.cur = new;
-        out.new = cur;
-        out.since = 0;
+        self.cur = new;
+        self.new = cur;
+        self.since = 0;
         Step {
             changed: true,
-            debouncer: out,
+            debouncer: self,
         }
     }
 
     // One scan.
-    fn step(self, scan: [u8; 128]) -> Step
+    fn step(mut self, scan: [u8; 128]) -> Step
         requires { ⌜ self .since < 65535 ⌝ }
         ensures { λ r. ⌜ r ≡ stepOut self (bounce.step alike (self .«nb_bounce») (bounceOf self) scan) ⌝ }
     {
-        let cur = self.cur;
-        if are_alike(cur, scan) {
-            let mut out = self;
-            out.since = 0;
+        if are_alike(&self.cur, &scan) {
+            self.since = 0;
             return Step {
                 changed: false,
-                debouncer: out,
+                debouncer: self,
             };
         }
         self.grown(scan).passed()
@@ -476,7 +469,15 @@ impl Debouncer {
     {
         let verdict = self.events_verdict(scan, out.len());
         match verdict {
-            Verdict::Fine => tell_step(self.step(pad(scan)), out),
+            Verdict::Fine => {
+                let step = self.step(pad(scan));
+                let debouncer = step.debouncer;
+                let count = tell_step(step, out);
+                Told {
+                    telling: Telling::Events(count),
+                    debouncer,
+                }
+            }
             Verdict::Refused(refusal) => Told {
                 telling: Telling::Refused(refusal),
                 debouncer: self,

@@ -1,20 +1,27 @@
 -- Laws of the words on lists, and of tests that hold. Assumes nothing.
 use Prim.Native.Nat.{ℕ, _+_, _<_, _≤_}
-use mathlib.Core.Bool.{Bool, true, false, _&&_}
+use mathlib.Core.Bool.{Bool, true, false, _&&_, and-true, and-false, and-assoc}
 use mathlib.Core.List.{List, [], _∷_, _++_}
-use mathlib.Core.Path.{_≡_, refl}
+use mathlib.Core.Path.{_≡_, refl, sym, _∙_}
 use native.Mathlib.Numerals.{add-one}
 use native.Mathlib.Omega.{arith}
 use borrow.Author.Tests.{eq-eqb, ne-eqb, eqb-true}
 use lib.Dec.{eqb}
-use lib.ListN.{length, drop, getD, drop-of-length-le}
+use lib.ListN.{length, take, drop, getD, length-append, length-drop, drop-of-length-le, take-append-drop}
 use lib.Seq.{drop-cons}
-use Rattle.lists.specs.Lists.{alike, count, every}
+use Rattle.lists.specs.Lists.{alike, laid, count, every}
 
 -- both halves of a test that holds
 pub both-true : (a b : Bool) → a && b ≡ true → (a ≡ true) × (b ≡ true)
 both-true true b e = (refl, e)
 both-true false b e = (e, cc)
+
+-- a loop that tells whether all pass a test, and goes to the end: `good` tells of those so far, `rest` of those that are left
+pub seen-fails : {all rest : Bool} (good : Bool) → all ≡ good && rest → rest ≡ false → all ≡ false
+seen-fails good inv e = inv ∙ rw e (and-false good)
+
+pub seen-all : {all rest : Bool} (good : Bool) → all ≡ good && rest → rest ≡ true → good ≡ all
+seen-all good inv e = sym (inv ∙ rw e (and-true good))
 
 module _ {A : Type 0} (p : A → Bool) where
   -- the first and the others
@@ -22,10 +29,13 @@ module _ {A : Type 0} (p : A → Bool) where
   unfolding every
   every-head x xs e = both-true (p x) (every p xs) e
 
-  pub every-append : (xs ys : List A) → every p xs ≡ true → every p ys ≡ true → every p (xs ++ ys) ≡ true
+  pub every-split : (xs ys : List A) → every p (xs ++ ys) ≡ every p xs && every p ys
   unfolding every
-  every-append [] ys e f = f
-  every-append (x ∷ xs) ys e f = let h = both-true (p x) (every p xs) e in rw (h .0) (every-append xs ys (h .1) f)
+  every-split [] ys = refl
+  every-split (x ∷ xs) ys = rw (every-split xs ys) (sym (and-assoc (p x) (every p xs) (every p ys)))
+
+  pub every-append : (xs ys : List A) → every p xs ≡ true → every p ys ≡ true → every p (xs ++ ys) ≡ true
+  every-append xs ys e f = rw (every-split xs ys, e) f
 
   pub count-append : (xs ys : List A) → count p (xs ++ ys) ≡ count p xs + count p ys
   unfolding count
@@ -78,3 +88,10 @@ pub alike-self : (a : List ℕ) → alike a a ≡ true
 unfolding alike
 alike-self [] = refl
 alike-self (x ∷ a) = rw (eq-eqb x x refl) (alike-self a)
+
+-- a buffer whose first bytes are these, and which is as it was past them; bytes that fit leave a buffer as long as it was
+pub laid-is : (buffer was bytes : List ℕ) (k : ℕ) → k ≡ length bytes → take k buffer ≡ bytes → drop k buffer ≡ drop k was → buffer ≡ laid bytes was
+laid-is buffer was bytes k long first past = sym (take-append-drop k buffer) ∙ rw (first, past, long)
+
+pub laid-long : (bytes buffer : List ℕ) → length bytes ≤ length buffer → length (laid bytes buffer) ≡ length buffer
+laid-long bytes buffer h = simp (length-append, length-drop) (omega arith)

@@ -1,8 +1,9 @@
 -- Plain words on lists, for statements. Assumes nothing.
 use Prim.Native.Nat.{ℕ, suc}
 use mathlib.Core.Bool.{Bool, true, false, cond, _&&_, _||_}
-use mathlib.Core.List.{List, [], _∷_}
+use mathlib.Core.List.{List, [], _∷_, _++_}
 use lib.Dec.{eqb}
+use lib.ListN.{length, drop}
 
 -- a number stands in the list
 unfoldable pub has : ℕ → List ℕ → Bool
@@ -15,6 +16,10 @@ alike [] [] = true
 alike [] (y ∷ ys) = false
 alike (x ∷ xs) [] = false
 alike (x ∷ xs) (y ∷ ys) = eqb x y && alike xs ys
+
+-- bytes laid over the start of a buffer, which keeps what is past them
+abbrev pub laid : List ℕ → List ℕ → List ℕ
+laid bytes buffer = bytes ++ drop (length bytes) buffer
 
 module _ {A : Type 0} where
   -- how many of the list pass the test

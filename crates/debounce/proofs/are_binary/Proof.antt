@@ -1,62 +1,42 @@
--- `debounce::are_binary` meets its contract: each place so far is 0 or 1, so those that are left decide. Assumes nothing.
+-- `debounce::are_binary` meets its contract: whether each place so far is 0 or 1, and the places that are left, decide. Assumes nothing.
 use borrow.Author.Needs.{needs}
-use Prim.Native.Nat.{_-_, _<_}
-use mathlib.Core.Path.{_≡_, refl, sym, _∙_}
-use borrow.Author.Tests.{ltb-true, ltb-false, le-leb, lt-leb}
-use lib.ListN.{length, take, drop, getD, length-take}
-use lib.Seq.{getD-take}
+use Prim.Native.Nat.{_-_}
+use mathlib.Core.Bool.{_&&_}
+use mathlib.Core.Logic.{⊎-elim}
+use mathlib.Core.Path.{_≡_, refl, _∙_}
+use borrow.Author.Tests.{le-leb, lt-leb}
+use lib.ListN.{length, drop, getD}
 use native.Mathlib.Omega.{arith}
 use Rattle.lists.specs.Lists.{every}
-use Rattle.lists.proofs.Laws.{every-on, every-fails, every-none}
+use Rattle.lists.proofs.Laws.{every-on, every-fails, every-none, seen-fails, seen-all}
 use Rattle.debounce.specs.Picture.{binary}
 use Rattle.debounce.proofs.are_binary.Statement.{statement}
 use Rattle.debounce.proofs.are_binary.Tie as tie
 
 abbrev Inv-loop : tie.InvT-loop
-Inv-loop places n i₀ i = every binary (take n places) ≡ every binary (drop i (take n places))
+Inv-loop places good₀ i₀ good i = every binary places ≡ good && every binary (drop i places)
 
 abbrev μ-loop : tie.MeasureT-loop
-μ-loop places n i₀ i = n - i
+μ-loop places good₀ i₀ good i = length places - i
 
 loop-holds : tie.Need-loop-holds Inv-loop μ-loop
 loop-holds c = refl
 
-returns : tie.Need-returns Inv-loop μ-loop
-returns c =
-    let at-loop = c .before .before .before .before in
-    let n = at-loop .before .args .n in
-    let l = at-loop .before .args .places .now in
-    let i = at-loop .loop .i in
-    let inside = ltb-true i (length l) (c .before .before .if1 .taken) in
-    let in-range : i < n = omega arith in
-    sym (at-loop .loop .inv
-    ∙ every-fails binary (take n l) i 0 (omega (arith, length-take n l)) (rw (getD-take n l i 0 in-range) (lt-leb (getD l i 0) 1 (c .if2 .taken))))
-
 loop-again : tie.Need-loop-again Inv-loop μ-loop
 loop-again c =
-    let at-loop = c .before .before .before .before in
-    let n = at-loop .before .args .n in
+    let at-loop = c .before .before .before in
     let l = at-loop .before .args .places .now in
     let i = at-loop .loop .i in
-    let inside = ltb-true i (length l) (c .before .before .if1 .taken) in
-    let in-range : i < n = omega arith in
-    at-loop .loop .inv
-    ∙ every-on binary (take n l) i 0 (omega (arith, length-take n l)) (rw (getD-take n l i 0 in-range) (le-leb (getD l i 0) 1 (c .if2 .left)))
+    let inv = at-loop .loop .inv in
+    ⊎-elim
+    (λ w. rw (w .1) (seen-fails (at-loop .loop .good) inv (every-fails binary l i 0 (omega arith) (lt-leb (getD l i 0) 1 (w .0 .taken)))))
+    (λ w. rw (w .1) (inv ∙ rw (every-on binary l i 0 (omega arith) (le-leb (getD l i 0) 1 (w .0 .left)))))
+    (c .if1 .came)
 
-returns-2 : tie.Need-returns-2 Inv-loop μ-loop
-returns-2 c =
-    let at-loop = c .before .before in
-    let n = at-loop .before .args .n in
-    let l = at-loop .before .args .places .now in
-    let past = ltb-false (at-loop .loop .i) (length l) (c .if1 .left) in
-    sym (at-loop .loop .inv ∙ every-none binary (take n l) (at-loop .loop .i) 0 (omega (arith, length-take n l)))
-
-returns-3 : tie.Need-returns-3 Inv-loop μ-loop
-returns-3 c =
+returns : tie.Need-returns Inv-loop μ-loop
+returns c =
     let at-loop = c .before in
-    let n = at-loop .before .args .n in
-    let l = at-loop .before .args .places .now in
-    sym (at-loop .loop .inv ∙ every-none binary (take n l) (at-loop .loop .i) 0 (omega (arith, length-take n l)))
+    seen-all (at-loop .loop .good) (at-loop .loop .inv) (every-none binary (at-loop .before .args .places .now) (at-loop .loop .i) 0 (c .loop-test .left))
 
 pub are-binary-spec : {M : Type 1} → statement M
 are-binary-spec =
@@ -66,9 +46,7 @@ are-binary-spec =
     μ-loop
     loop-holds
     (λ c. search needs)
-    returns
     (λ c. search needs)
     (λ c. search needs)
     loop-again
-    returns-2
-    returns-3)
+    returns)

@@ -1,43 +1,42 @@
--- `debounce::are_unused` meets its contract: each place so far is 0, so those that are left decide. Assumes nothing.
+-- `debounce::are_unused` meets its contract: whether each place from n on so far is 0, and the places that are left, decide. Assumes nothing.
 use borrow.Author.Needs.{needs}
 use Prim.Native.Nat.{_-_}
-use mathlib.Core.Path.{_≡_, refl, sym, _∙_}
+use mathlib.Core.Bool.{_&&_}
+use mathlib.Core.Logic.{⊎-elim}
+use mathlib.Core.Path.{_≡_, refl, _∙_}
 use borrow.Author.Tests.{eq-eqb, ne-eqb}
 use lib.ListN.{length, drop, getD}
 use native.Mathlib.Omega.{arith}
 use Rattle.lists.specs.Lists.{every}
-use Rattle.lists.proofs.Laws.{every-on, every-fails, every-none}
+use Rattle.lists.proofs.Laws.{every-on, every-fails, every-none, seen-fails, seen-all}
 use Rattle.debounce.specs.Picture.{unused}
 use Rattle.debounce.proofs.are_unused.Statement.{statement}
 use Rattle.debounce.proofs.are_unused.Tie as tie
 
 abbrev Inv-loop : tie.InvT-loop
-Inv-loop places n i₀ i = every unused (drop n places) ≡ every unused (drop i places)
+Inv-loop places n good₀ i₀ good i = every unused (drop n places) ≡ good && every unused (drop i places)
 
 abbrev μ-loop : tie.MeasureT-loop
-μ-loop places n i₀ i = length places - i
+μ-loop places n good₀ i₀ good i = length places - i
 
 loop-holds : tie.Need-loop-holds Inv-loop μ-loop
 loop-holds c = refl
-
-returns : tie.Need-returns Inv-loop μ-loop
-returns c =
-    let at-loop = c .before .before .before in
-    let l = at-loop .before .args .places .now in
-    let i = at-loop .loop .i in
-    sym (at-loop .loop .inv ∙ every-fails unused l i 0 (omega arith) (ne-eqb (getD l i 0) 0 (c .if1 .taken)))
 
 loop-again : tie.Need-loop-again Inv-loop μ-loop
 loop-again c =
     let at-loop = c .before .before .before in
     let l = at-loop .before .args .places .now in
     let i = at-loop .loop .i in
-    at-loop .loop .inv ∙ every-on unused l i 0 (omega arith) (eq-eqb (getD l i 0) 0 (c .if1 .left))
+    let inv = at-loop .loop .inv in
+    ⊎-elim
+    (λ w. rw (w .1) (seen-fails (at-loop .loop .good) inv (every-fails unused l i 0 (omega arith) (ne-eqb (getD l i 0) 0 (w .0 .taken)))))
+    (λ w. rw (w .1) (inv ∙ rw (every-on unused l i 0 (omega arith) (eq-eqb (getD l i 0) 0 (w .0 .left)))))
+    (c .if1 .came)
 
-returns-2 : tie.Need-returns-2 Inv-loop μ-loop
-returns-2 c =
+returns : tie.Need-returns Inv-loop μ-loop
+returns c =
     let at-loop = c .before in
-    sym (at-loop .loop .inv ∙ every-none unused (at-loop .before .args .places .now) (at-loop .loop .i) 0 (c .loop-test .left))
+    seen-all (at-loop .loop .good) (at-loop .loop .inv) (every-none unused (at-loop .before .args .places .now) (at-loop .loop .i) 0 (c .loop-test .left))
 
 pub are-unused-spec : {M : Type 1} → statement M
 are-unused-spec =
@@ -47,8 +46,7 @@ are-unused-spec =
     μ-loop
     loop-holds
     (λ c. search needs)
-    returns
     (λ c. search needs)
     (λ c. search needs)
     loop-again
-    returns-2)
+    returns)

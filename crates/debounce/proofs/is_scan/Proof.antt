@@ -1,9 +1,7 @@
 -- `debounce::is_scan` meets its contract. Assumes nothing.
 use borrow.Author.Needs.{needs}
-use mathlib.Core.Path.{sym, _∙_}
 use borrow.Author.Tests.{eq-eqb, ne-eqb}
 use lib.ListN.{length}
-use lib.Seq.{take-length}
 use Rattle.debounce.specs.Picture.{isScan}
 use Rattle.debounce.proofs.is_scan.Statement.{statement}
 use Rattle.debounce.proofs.is_scan.Tie as tie
@@ -12,8 +10,7 @@ returns : tie.Need-returns
 unfolding isScan
 returns c =
     let a = c .before .before .before .args in
-    let e = c .before .if1 .taken in
-    rw (eq-eqb (length (a .scan .now)) (a .n) e) (c .are-binary .ensures ∙ rw (sym e, take-length))
+    rw (eq-eqb (length (a .scan .now)) (a .n) (c .before .if1 .taken)) (c .are-binary .ensures)
 
 returns-2 : tie.Need-returns-2
 unfolding isScan

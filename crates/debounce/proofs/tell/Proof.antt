@@ -6,9 +6,10 @@ use mathlib.Core.Path.{_≡_, refl, sym, ap, _∙_}
 use lib.ListN.{length, take, drop, length-take}
 use lib.Seq.{getD-take}
 use native.Mathlib.Omega.{arith}
+use Rattle.lists.proofs.Laws.{laid-is}
 use Rattle.event.specs.declared.Event.{Event}
 use Rattle.debounce.specs.Events.{changes, written}
-use Rattle.debounce.proofs.EventLaws.{changes-none, length-written, empty-written, tell-turn, all-laid}
+use Rattle.debounce.proofs.EventLaws.{changes-none, length-written, empty-written, tell-turn}
 use Rattle.debounce.proofs.tell.Statement.{statement}
 use Rattle.debounce.proofs.tell.Tie as tie
 
@@ -53,7 +54,7 @@ returns c =
     let many = l .inv .3 in
     let count : l .told ≡ length (changes (a .columns) 0 O N) = omega (arith, ap (λ (es : List Event). length es) none) in (
       count,
-      all-laid (l .out) (a .out .now) (written (changes (a .columns) 0 O N)) (3 * l .told)
+      laid-is (l .out) (a .out .now) (written (changes (a .columns) 0 O N)) (3 * l .told)
           (omega (arith, length-written (changes (a .columns) 0 O N)))
           (sym (ap (λ (es : List Event). take (3 * l .told) (l .out) ++ written es) none ∙ empty-written (take (3 * l .told) (l .out))) ∙ l .inv .4)
           (l .inv .5),

@@ -8,15 +8,14 @@ use Rattle.debounce.proofs.tell_step.Tie as tie
 
 returns : tie.Need-returns
 unfolding written
-returns c = rw (not-true (c .before .before .before .before .args .step .changed) (c .if1 .taken)) (refl, refl)
+returns c = rw (not-true (c .before .before .before .args .step .changed) (c .if1 .taken)) (refl, refl)
 
 returns-2 : tie.Need-returns-2
 unfolding written
 returns-2 c =
-    let changed = c .before .before .before .before .before .before .before in
-    let s = changed .before .before .before .before .args .step in
-    let ens = c .before .before .tell .ensures in
-    rw (not-false (s .changed) (changed .if1 .left)) (rw (ens .0), ens .1)
+    let changed = c .before .before .before .before .before .before .before .before in
+    let s = changed .before .before .before .args .step in
+    rw (not-false (s .changed) (changed .if1 .left)) (c .before .before .tell .ensures)
 
 pub tell-step-spec : {M : Type 1} → statement M
 tell-step-spec =

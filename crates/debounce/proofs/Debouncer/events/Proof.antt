@@ -14,19 +14,19 @@ step-requires c κs = events-fine _ _ _ (sym (c .before .before .before .events-
 
 tell-step-requires : tie.Need-tell-step-requires
 tell-step-requires c κs =
-    let at-told = c .before .before .before in
+    let at-told = c .before .before .before .before in
     let f = events-fine _ _ _ (sym (at-told .before .before .events-verdict .ensures) ∙ at-told .enum-told .given .1) in
     let sizes = f .0 .sizes in
-    rw (c .before .step .ensures) (sizes .some-columns, sizes .few-columns, sizes .few, f .1)
+    rw (c .before .before .step .ensures) (sizes .some-columns, sizes .few-columns, sizes .few, f .1)
 
 returns : tie.Need-returns
 unfolding told eventsOf buffered
 returns c =
-    let at-step = c .before .before .before .before in
+    let at-step = c .before .before .before .before .before in
     let at-told = at-step .before .before in
     let fine = sym (at-told .before .before .events-verdict .ensures) ∙ at-told .enum-told .given .1 in
     let ens = c .before .before .tell-step .ensures in
-    rw fine (ens .0 ∙ rw (at-step .step .ensures, at-step .before .pad .ensures), ens .1 ∙ rw (at-step .step .ensures, at-step .before .pad .ensures))
+    rw fine (rw (ens .0, at-step .step .ensures, at-step .before .pad .ensures), ens .1 ∙ rw (at-step .step .ensures, at-step .before .pad .ensures))
 
 returns-2 : tie.Need-returns-2
 unfolding told eventsOf buffered

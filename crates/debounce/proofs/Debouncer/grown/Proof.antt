@@ -7,7 +7,7 @@ use Rattle.debounce.proofs.Debouncer.grown.Tie as tie
 
 returns : tie.Need-returns
 unfolding bounce.grown
-returns c = rw (sym (c .before .before .are-alike .ensures) ∙ c .before .if1 .taken)
+returns c = rw (sym (c .before .are-alike .ensures) ∙ c .if1 .taken)
 
 returns-2 : tie.Need-returns-2
 unfolding bounce.grown
@@ -17,6 +17,7 @@ pub grown-spec : {M : Type 1} → statement M
 grown-spec =
     tie.close
     (tie.spec
+    (λ c. search needs)
     (λ c κs. search needs)
     (λ c. search needs)
     returns
