@@ -1,21 +1,38 @@
 -- Laws of pictures: two places on, a scan laid into its places, the first places and the rest. Assumes nothing.
 use Prim.Native.Nat.{ℕ, suc, _+_, _-_, _<_, _≤_}
-use mathlib.Core.Bool.{true, _&&_}
+use mathlib.Core.Bool.{Bool, true, false, _&&_}
 use mathlib.Core.List.{List, [], _∷_, _++_}
 use mathlib.Core.Path.{_≡_, refl, sym, ap, _∙_}
 use native.Mathlib.Numerals.{add-one, add-two}
 use native.Mathlib.Omega.{arith}
-use borrow.Author.Tests.{eqb-true}
-use lib.ListN.{length, take, drop, getD, set, replicate, take-append-drop}
-use lib.Seq.{take-suc, set-at, length-take-le, append-snoc, sets}
+use borrow.Author.Tests.{le-leb, lt-leb, eqb-true, eqb-false}
+use lib.Dec.{eqb, leb}
+use lib.ListN.{length, take, drop, getD, set, replicate, length-drop, take-append-drop}
+use lib.Seq.{take-all, take-suc, set-at, length-take-le, append-snoc, sets}
 use Rattle.lists.specs.Lists.{every}
 use Rattle.lists.proofs.Laws.{both-true, every-split}
 use Rattle.debounce.specs.Picture.{binary, unused, isPicture}
+use Rattle.debounce.specs.Inside.{atMost}
 use Rattle.event.specs.declared.Event.{Event}
 use Rattle.event.specs.declared.Event.the-variants.{Release, Press}
 use Rattle.event.specs.Bytes.{bytesOf}
 
--- an unused place is 0, so where all from n on are unused the others decide whether all are 0 or 1
+-- an unused place is 0: at most 0, and so at most 1
+unused-low : (u : ℕ) → unused u ≡ atMost 0 u
+unused-low u = go (eqb u 0) refl
+  where
+    go : (t : Bool) → eqb u 0 ≡ t → t ≡ leb u 0
+    go true e = sym (le-leb u 0 (omega (arith, eqb-true u 0 e)))
+    go false e = sym (lt-leb u 0 (omega (arith, eqb-false u 0 e)))
+
+unused-all : (l : List ℕ) → every unused l ≡ every (atMost 0) l
+unfolding every
+unused-all [] = refl
+unused-all (u ∷ l) = rw (unused-low u, unused-all l)
+
+pub unused-past : (n : ℕ) (l : List ℕ) → length l ≡ 128 → every (atMost 0) (take (128 - n) (drop n l)) ≡ every unused (drop n l)
+unused-past n l long = rw (take-all (128 - n) (drop n l) (omega (arith, length-drop n l))) (sym (unused-all (drop n l)))
+
 unused-binary : (l : List ℕ) → every unused l ≡ true → every binary l ≡ true
 unfolding every
 unused-binary [] e = refl
@@ -23,6 +40,7 @@ unused-binary (u ∷ l) e =
     let h = both-true (unused u) (every unused l) e in
     rw (eqb-true u 0 (h .0)) (unused-binary l (h .1))
 
+-- where all places from n on are unused, a picture is places that are all 0 or 1
 pub picture-binary : (n : ℕ) (l : List ℕ) → every unused (drop n l) ≡ true → isPicture n l ≡ every binary l
 unfolding isPicture
 picture-binary n l e =

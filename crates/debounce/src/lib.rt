@@ -11,11 +11,11 @@ ghost use lib.ListN.{length, take, drop};
 ghost use lib.Seq.{sets};
 ghost use Rattle.lists.specs.Lists.{alike, every, laid};
 ghost use Rattle.event.specs.Bytes.{bytesOf};
-ghost use Rattle.debounce.specs.Picture.{padded, binary, unused, isPicture, isScan};
+ghost use Rattle.debounce.specs.Picture.{padded, isPicture, isScan};
 ghost use Rattle.debounce.specs.Events.{eventAt, changeAt, changes, written};
 ghost use Rattle.debounce.specs.Step as bounce;
 ghost use Rattle.debounce.specs.Calls.{sizesGood, bounceGood, stateGood, switches, makingVerdict, getVerdict, updateVerdict, eventsVerdict, bounceOf, withBounce, made, got, updated, told, buffered, numberIn, changeOf, countOf};
-ghost use Rattle.debounce.specs.Inside.{stepOut, eventsIn};
+ghost use Rattle.debounce.specs.Inside.{atMost, stepOut, eventsIn};
 
 // The accepted picture, the candidate, for how many scans the candidate has stood, and the size. A switch that is down is
 // 1, one that is up 0, row by row; places past the last switch are 0.
@@ -129,30 +129,15 @@ struct Step {
     debouncer: Debouncer,
 }
 
-// Whether each place is 0 or 1. This loop and the next two go to the end whatever they find, so that the compiler can take
-// many places at once.
-fn are_binary(places: &[u8]) -> bool
-    ensures { λ r. ⌜ r ≡ every binary (now (places .entry)) ⌝ }
+// Whether each place is at most so much. This loop and the next go to the end whatever they find, so that the compiler can
+// take many places at once.
+fn are_at_most(places: &[u8], most: u8) -> bool
+    ensures { λ r. ⌜ r ≡ every (atMost most) (now (places .entry)) ⌝ }
 {
     let mut good = true;
     let mut i = 0;
     while i < places.len() {
-        if 1 < places[i] {
-            good = false;
-        }
-        i += 1;
-    }
-    good
-}
-
-// Whether each place from n on is 0.
-fn are_unused(places: &[u8], n: usize) -> bool
-    ensures { λ r. ⌜ r ≡ every unused (drop n (now (places .entry))) ⌝ }
-{
-    let mut good = true;
-    let mut i = n;
-    while i < places.len() {
-        if places[i] != 0 {
+        if most < places[i] {
             good = false;
         }
         i += 1;
@@ -161,15 +146,16 @@ fn are_unused(places: &[u8], n: usize) -> bool
 }
 
 fn is_picture(places: [u8; 128], n: usize) -> bool
+    requires { ⌜ n ≤ 128 ⌝ }
     ensures { λ r. ⌜ r ≡ isPicture n places ⌝ }
 {
-    are_unused(&places, n) && are_binary(&places)
+    are_at_most(&places[n..], 0) && are_at_most(&places, 1)
 }
 
 fn is_scan(scan: &[u8], n: usize) -> bool
     ensures { λ r. ⌜ r ≡ isScan n (now (scan .entry)) ⌝ }
 {
-    scan.len() == n && are_binary(scan)
+    scan.len() == n && are_at_most(scan, 1)
 }
 
 fn are_alike(a: &[u8], b: &[u8]) -> bool
@@ -351,17 +337,16 @@ impl Debouncer {
     fn state_good(self) -> bool
         ensures { λ r. ⌜ r ≡ stateGood self ⌝ }
     {
-        let rows = self.rows;
-        let columns = self.columns;
-        if !bounce_good(rows, columns, self.nb_bounce) {
+        if !bounce_good(self.rows, self.columns, self.nb_bounce) {
             return false;
         }
         if self.nb_bounce < self.since {
             return false;
         }
+        let n = self.rows * self.columns;
         let cur = self.cur;
         let new = self.new;
-        is_picture(cur, rows * columns) && is_picture(new, rows * columns)
+        is_picture(cur, n) && is_picture(new, n)
     }
 
     fn update_verdict(self, scan: &[u8]) -> Verdict

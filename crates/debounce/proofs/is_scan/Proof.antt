@@ -10,7 +10,7 @@ returns : tie.Need-returns
 unfolding isScan
 returns c =
     let a = c .before .before .before .args in
-    rw (eq-eqb (length (a .scan .now)) (a .n) (c .before .if1 .taken)) (c .are-binary .ensures)
+    rw (eq-eqb (length (a .scan .now)) (a .n) (c .before .if1 .taken)) (c .are-at-most .ensures)
 
 returns-2 : tie.Need-returns-2
 unfolding isScan
