@@ -12,11 +12,12 @@ use lib.ListN.{length}
 use Rattle.lists.specs.Lists.{every}
 use Rattle.lists.proofs.Laws.{both-true}
 use Rattle.refusal.specs.declared.Refusal.{Refusal}
+use Rattle.refusal.specs.declared.Refusal.the-variants.{Scan, Room, State}
 use Rattle.debounce.specs.Picture.{binary, isPicture, isScan}
 use Rattle.debounce.specs.Calls.{switches, sizesGood, bounceGood, stateGood, rule, makingVerdict, updateVerdict, eventsVerdict}
 use Rattle.debounce.specs.declared.Debouncer.{Debouncer}
 use Rattle.debounce.specs.declared.Verdict.{Verdict}
-use Rattle.debounce.specs.declared.Verdict.the-variants.{Fine}
+use Rattle.debounce.specs.declared.Verdict.the-variants.{Fine, Refused}
 
 pub record Sized (rows columns nb : ℕ) : Type 0 where
   pub some-rows : 1 ≤ rows
@@ -84,6 +85,22 @@ unfolding updateVerdict
 update-fine d scan e =
     let k = kept (stateGood d) _ _ e in
     taken d scan (k .0) (kept (isScan (switches d) scan) _ _ (k .1) .0)
+
+-- `events` is refused where `update` is, and else where there is no room
+pub events-refused : (d : Debouncer) (scan : List ℕ) (room : ℕ) (r : Refusal) → updateVerdict d scan ≡ Refused r → eventsVerdict d scan room ≡ Refused r
+unfolding updateVerdict eventsVerdict rule
+events-refused d scan room r = go (stateGood d) (isScan (switches d) scan)
+  where
+    go : (s f : Bool) → rule s State (rule f Scan Fine) ≡ Refused r → rule s State (rule f Scan (rule (leb (3 * switches d) room) Room Fine)) ≡ Refused r
+    go true true e = cc
+    go true false e = e
+    go false f e = e
+
+pub events-room : (d : Debouncer) (scan : List ℕ) (room : ℕ) → updateVerdict d scan ≡ Fine → eventsVerdict d scan room ≡ rule (leb (3 * switches d) room) Room Fine
+unfolding updateVerdict eventsVerdict rule
+events-room d scan room e =
+    let k = kept (stateGood d) _ _ e in
+    rw (k .0, kept (isScan (switches d) scan) _ _ (k .1) .0)
 
 pub events-fine : (d : Debouncer) (scan : List ℕ) (room : ℕ) → eventsVerdict d scan room ≡ Fine → Taken d scan × (3 * switches d ≤ room)
 unfolding eventsVerdict

@@ -364,16 +364,16 @@ impl Debouncer {
     fn events_verdict(self, scan: &[u8], room: usize) -> Verdict
         ensures { λ r. ⌜ r ≡ eventsVerdict self (now (scan .entry)) room ⌝ }
     {
-        if !self.state_good() {
-            return Verdict::Refused(Refusal::State);
+        let verdict = self.update_verdict(scan);
+        match verdict {
+            Verdict::Fine => {
+                if room < 3 * (self.rows * self.columns) {
+                    return Verdict::Refused(Refusal::Room);
+                }
+                Verdict::Fine
+            }
+            Verdict::Refused(refusal) => Verdict::Refused(refusal),
         }
-        if !is_scan(scan, self.rows * self.columns) {
-            return Verdict::Refused(Refusal::Scan);
-        }
-        if room < 3 * (self.rows * self.columns) {
-            return Verdict::Refused(Refusal::Room);
-        }
-        Verdict::Fine
     }
 
     // A debouncer whose start picture is accepted and candidate. Where it is refused: all up, 1 by 1, nb_bounce 0.

@@ -1,27 +1,37 @@
 -- `debounce::making_verdict` meets its contract. Assumes nothing.
 use borrow.Author.Needs.{needs}
-use mathlib.Core.Path.{sym, _∙_}
+use mathlib.Core.Bool.{true}
+use mathlib.Core.Path.{_≡_, sym, _∙_}
 use borrow.Author.Tests.{not-true, not-false}
 use native.Mathlib.Omega.{arith}
+use Rattle.debounce.specs.Calls.{bounceGood, rule, makingVerdict}
 use Rattle.debounce.proofs.States.{sized}
-use Rattle.debounce.specs.Calls.{rule, makingVerdict}
+use Rattle.debounce.proofs.bounce_good.Reads as bounce-good
+use Rattle.debounce.proofs.is_scan.Reads as is-scan
+use Rattle.debounce.proofs.making_verdict.Reads as reads
+use Rattle.debounce.proofs.making_verdict.Lts as lts
 use Rattle.debounce.proofs.making_verdict.Statement.{statement}
 use Rattle.debounce.proofs.making_verdict.Tie as tie
+
+-- behind the first test
+good : (c : lts.Else1 (bounce-good.Asked, bounce-good.Learnt, is-scan.Asked, is-scan.Learnt) reads.Pre reads.Post)
+    → let a = c .before .before .before .args in bounceGood (a .rows) (a .columns) (a .nb-bounce) ≡ true
+good c = sym (c .before .bounce-good .ensures) ∙ not-false _ (c .if1 .left)
 
 returns : tie.Need-returns
 unfolding makingVerdict rule
 returns c = rw (sym (c .before .bounce-good .ensures) ∙ not-true _ (c .if1 .taken))
 
 mul-is-scan : tie.Need-mul-is-scan
-mul-is-scan c = omega (arith, sized _ _ _ (sym (c .before .bounce-good .ensures) ∙ not-false _ (c .if1 .left)) .few)
+mul-is-scan c = omega (arith, sized _ _ _ (good c) .few)
 
 returns-2 : tie.Need-returns-2
 unfolding makingVerdict rule
-returns-2 c = rw (sym (c .before .before .before .bounce-good .ensures) ∙ not-false _ (c .before .before .if1 .left), sym (c .before .is-scan .ensures) ∙ not-true _ (c .if2 .taken))
+returns-2 c = rw (good (c .before .before), sym (c .before .is-scan .ensures) ∙ not-true _ (c .if2 .taken))
 
 returns-3 : tie.Need-returns-3
 unfolding makingVerdict rule
-returns-3 c = rw (sym (c .before .before .before .bounce-good .ensures) ∙ not-false _ (c .before .before .if1 .left), sym (c .before .is-scan .ensures) ∙ not-false _ (c .if2 .left))
+returns-3 c = rw (good (c .before .before), sym (c .before .is-scan .ensures) ∙ not-false _ (c .if2 .left))
 
 pub making-verdict-spec : {M : Type 1} → statement M
 making-verdict-spec =

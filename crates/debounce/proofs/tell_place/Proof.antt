@@ -15,8 +15,10 @@ returns c = let a = c .before .before .args in rw (eq-eqb (a .was) (a .is) (c .i
 returns-2 : tie.Need-returns-2
 unfolding changeAt written
 returns-2 c =
-    let a = c .before .before .before .before .before .before .before .args in
-    rw (ne-eqb (a .was) (a .is) (c .before .before .before .before .before .if1 .left), append-nil) (refl, c .before .before .put-event .ensures ∙ rw (c .before .before .before .event-at .ensures))
+    let put = c .before .before in
+    let differs = put .before .before .before in
+    let a = differs .before .before .args in
+    rw (ne-eqb (a .was) (a .is) (differs .if1 .left), append-nil) (refl, put .put-event .ensures ∙ rw (put .before .event-at .ensures))
 
 pub tell-place-spec : {M : Type 1} → statement M
 tell-place-spec =

@@ -1,32 +1,45 @@
 -- `debounce::Debouncer::events` meets its contract, in each case of the verdict. Assumes nothing.
 use borrow.Author.Needs.{needs}
-use mathlib.Core.Path.{refl, sym, _∙_}
-use Rattle.debounce.specs.Calls.{told, eventsOf, buffered}
+use mathlib.Core.Path.{_≡_, refl, sym, _∙_}
+use lib.ListN.{length}
+use Rattle.debounce.specs.Calls.{eventsVerdict, told, eventsOf, buffered}
+use Rattle.debounce.specs.declared.Verdict.the-variants.{Fine}
 use Rattle.debounce.proofs.States.{events-fine}
+use Rattle.debounce.proofs.pad.Reads as pad
+use Rattle.debounce.proofs.tell_step.Reads as tell-step
+use Rattle.debounce.proofs.Debouncer.step.Reads as step
+use Rattle.debounce.proofs.Debouncer.events_verdict.Reads as events-verdict
+use Rattle.debounce.proofs.Debouncer.events.Reads as reads
+use Rattle.debounce.proofs.Debouncer.events.Lts as lts
 use Rattle.debounce.proofs.Debouncer.events.Statement.{statement}
 use Rattle.debounce.proofs.Debouncer.events.Tie as tie
 
+-- where it is not refused
+fine : (c : lts.After-enum-told (events-verdict.Asked, events-verdict.Learnt, pad.Asked, pad.Learnt, step.Asked, step.Learnt, tell-step.Asked, tell-step.Learnt) reads.Pre reads.Post)
+    → let a = c .before .before .before .before .before .args in eventsVerdict (a .self) (a .scan .now) (length (a .out .now)) ≡ Fine
+fine c = sym (c .before .before .events-verdict .ensures) ∙ c .enum-told .given .1
+
 pad-requires : tie.Need-pad-requires
-pad-requires c κs = events-fine _ _ _ (sym (c .before .before .events-verdict .ensures) ∙ c .enum-told .given .1) .0 .scan-fits
+pad-requires c κs = events-fine _ _ _ (fine c) .0 .scan-fits
 
 step-requires : tie.Need-step-requires
-step-requires c κs = events-fine _ _ _ (sym (c .before .before .before .events-verdict .ensures) ∙ c .before .enum-told .given .1) .0 .since-low
+step-requires c κs = events-fine _ _ _ (fine (c .before)) .0 .since-low
 
 tell-step-requires : tie.Need-tell-step-requires
 tell-step-requires c κs =
-    let at-told = c .before .before .before .before in
-    let f = events-fine _ _ _ (sym (at-told .before .before .events-verdict .ensures) ∙ at-told .enum-told .given .1) in
+    let stepped = c .before .before in
+    let f = events-fine _ _ _ (fine (stepped .before .before)) in
     let sizes = f .0 .sizes in
-    rw (c .before .before .step .ensures) (sizes .some-columns, sizes .few-columns, sizes .few, f .1)
+    rw (stepped .step .ensures) (sizes .some-columns, sizes .few-columns, sizes .few, f .1)
 
 returns : tie.Need-returns
 unfolding told eventsOf buffered
 returns c =
-    let at-step = c .before .before .before .before .before in
-    let at-told = at-step .before .before in
-    let fine = sym (at-told .before .before .events-verdict .ensures) ∙ at-told .enum-told .given .1 in
-    let ens = c .before .before .tell-step .ensures in
-    rw fine (rw (ens .0, at-step .step .ensures, at-step .before .pad .ensures), ens .1 ∙ rw (at-step .step .ensures, at-step .before .pad .ensures))
+    let counted = c .before .before in
+    let stepped = counted .before .before .before in
+    let ens = counted .tell-step .ensures in
+    let put = stepped .before in
+    rw (fine (put .before)) (rw (ens .0, stepped .step .ensures, put .pad .ensures), ens .1 ∙ rw (stepped .step .ensures, put .pad .ensures))
 
 returns-2 : tie.Need-returns-2
 unfolding told eventsOf buffered

@@ -1,48 +1,50 @@
--- `debounce::Debouncer::events_verdict` meets its contract. Assumes nothing.
+-- `debounce::Debouncer::events_verdict` meets its contract: as `update`, and then the room. Assumes nothing.
 use borrow.Author.Needs.{needs}
-use mathlib.Core.Path.{sym, _∙_}
-use borrow.Author.Tests.{not-true, not-false, le-leb, lt-leb}
+use mathlib.Core.Path.{_≡_, sym, _∙_}
+use borrow.Author.Tests.{le-leb, lt-leb}
 use native.Mathlib.Omega.{arith}
-use Rattle.debounce.proofs.States.{legal}
-use Rattle.debounce.specs.Calls.{rule, eventsVerdict}
+use Rattle.debounce.specs.Calls.{rule, updateVerdict}
+use Rattle.debounce.specs.declared.Verdict.the-variants.{Fine}
+use Rattle.debounce.proofs.States.{update-fine, events-room, events-refused}
+use Rattle.debounce.proofs.Debouncer.update_verdict.Reads as update-verdict
+use Rattle.debounce.proofs.Debouncer.events_verdict.Reads as reads
+use Rattle.debounce.proofs.Debouncer.events_verdict.Lts as lts
 use Rattle.debounce.proofs.Debouncer.events_verdict.Statement.{statement}
 use Rattle.debounce.proofs.Debouncer.events_verdict.Tie as tie
 
-returns : tie.Need-returns
-unfolding eventsVerdict rule
-returns c = rw (sym (c .before .state-good .ensures) ∙ not-true _ (c .if1 .taken))
+-- where `update` would not be refused
+abbrev Kept : Type 0
+Kept = lts.After-struct-known (update-verdict.Asked, update-verdict.Learnt) reads.Pre reads.Post
 
-mul-is-scan : tie.Need-mul-is-scan
-mul-is-scan c = omega (arith, legal _ (sym (c .before .before .state-good .ensures) ∙ not-false _ (c .before .if1 .left)) .0 .few)
+fine : (c : Kept) → let a = c .before .before .before .before .before .args in updateVerdict (a .self) (a .scan .now) ≡ Fine
+fine c = sym (c .before .before .before .update-verdict .ensures) ∙ c .before .enum-told .given .1
+
+mul-if1 : tie.Need-mul-if1
+mul-if1 c = omega (arith, update-fine _ _ (fine c) .sizes .few)
+
+mul-if1-2 : tie.Need-mul-if1-2
+mul-if1-2 c = omega (arith, update-fine _ _ (fine c) .sizes .few)
+
+returns : tie.Need-returns
+unfolding rule
+returns c = sym (events-room _ _ _ (fine (c .before)) ∙ rw (lt-leb _ _ (c .if1 .taken)))
 
 returns-2 : tie.Need-returns-2
-unfolding eventsVerdict rule
-returns-2 c = rw (sym (c .before .before .before .before .state-good .ensures) ∙ not-false _ (c .before .before .before .if1 .left), sym (c .before .is-scan .ensures) ∙ not-true _ (c .if2 .taken))
-
-mul-if3 : tie.Need-mul-if3
-mul-if3 c = omega (arith, legal _ (sym (c .before .before .before .before .before .state-good .ensures) ∙ not-false _ (c .before .before .before .before .if1 .left)) .0 .few)
-
-mul-if3-2 : tie.Need-mul-if3-2
-mul-if3-2 c = omega (arith, legal _ (sym (c .before .before .before .before .before .state-good .ensures) ∙ not-false _ (c .before .before .before .before .if1 .left)) .0 .few)
+unfolding rule
+returns-2 c = sym (events-room _ _ _ (fine (c .before)) ∙ rw (le-leb _ _ (c .if1 .left)))
 
 returns-3 : tie.Need-returns-3
-unfolding eventsVerdict rule
-returns-3 c = rw (sym (c .before .before .before .before .before .before .state-good .ensures) ∙ not-false _ (c .before .before .before .before .before .if1 .left), sym (c .before .before .before .is-scan .ensures) ∙ not-false _ (c .before .before .if2 .left), lt-leb _ _ (c .if3 .taken))
-
-returns-4 : tie.Need-returns-4
-unfolding eventsVerdict rule
-returns-4 c = rw (sym (c .before .before .before .before .before .before .state-good .ensures) ∙ not-false _ (c .before .before .before .before .before .if1 .left), sym (c .before .before .before .is-scan .ensures) ∙ not-false _ (c .before .before .if2 .left), le-leb _ _ (c .if3 .left))
+returns-3 c = sym (events-refused _ _ _ _ (sym (c .before .before .before .update-verdict .ensures) ∙ c .before .verdict .given .1))
 
 pub events-verdict-spec : {M : Type 1} → statement M
 events-verdict-spec =
     tie.close
     (tie.spec
     (λ c κs. search needs)
+    (λ c. search needs)
+    mul-if1
+    mul-if1-2
     returns
-    mul-is-scan
-    (λ c κs. search needs)
+    (λ c. search needs)
     returns-2
-    mul-if3
-    mul-if3-2
-    returns-3
-    returns-4)
+    returns-3)

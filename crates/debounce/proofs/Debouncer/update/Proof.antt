@@ -1,20 +1,33 @@
 -- `debounce::Debouncer::update` meets its contract, in each case of the verdict. Assumes nothing.
 use borrow.Author.Needs.{needs}
-use mathlib.Core.Path.{sym, _∙_}
-use Rattle.debounce.specs.Calls.{updated}
+use mathlib.Core.Path.{_≡_, sym, _∙_}
+use Rattle.debounce.specs.Calls.{updateVerdict, updated}
+use Rattle.debounce.specs.declared.Verdict.the-variants.{Fine}
 use Rattle.debounce.proofs.States.{update-fine}
+use Rattle.debounce.proofs.pad.Reads as pad
+use Rattle.debounce.proofs.Debouncer.step.Reads as step
+use Rattle.debounce.proofs.Debouncer.update_verdict.Reads as update-verdict
+use Rattle.debounce.proofs.Debouncer.update.Reads as reads
+use Rattle.debounce.proofs.Debouncer.update.Lts as lts
 use Rattle.debounce.proofs.Debouncer.update.Statement.{statement}
 use Rattle.debounce.proofs.Debouncer.update.Tie as tie
 
+-- where it is not refused
+fine : (c : lts.After-enum-told (update-verdict.Asked, update-verdict.Learnt, pad.Asked, pad.Learnt, step.Asked, step.Learnt) reads.Pre reads.Post)
+    → let a = c .before .before .before .before .args in updateVerdict (a .self) (a .scan .now) ≡ Fine
+fine c = sym (c .before .before .update-verdict .ensures) ∙ c .enum-told .given .1
+
 pad-requires : tie.Need-pad-requires
-pad-requires c κs = update-fine _ _ (sym (c .before .before .update-verdict .ensures) ∙ c .enum-told .given .1) .scan-fits
+pad-requires c κs = update-fine _ _ (fine c) .scan-fits
 
 step-requires : tie.Need-step-requires
-step-requires c κs = update-fine _ _ (sym (c .before .before .before .update-verdict .ensures) ∙ c .before .enum-told .given .1) .since-low
+step-requires c κs = update-fine _ _ (fine (c .before)) .since-low
 
 returns : tie.Need-returns
 unfolding updated
-returns c = rw (sym (c .before .before .before .before .before .update-verdict .ensures) ∙ c .before .before .before .enum-told .given .1, c .before .step .ensures, c .before .before .pad .ensures)
+returns c =
+    let stepped = c .before in
+    rw (fine (stepped .before .before), stepped .step .ensures, stepped .before .pad .ensures)
 
 returns-2 : tie.Need-returns-2
 unfolding updated
