@@ -46,7 +46,7 @@ use denote.Exit.{yes}
 use Rattle.keyboard.specs.declared.Keyboard.{Keyboard}
 use Rattle.keyboard.proofs.Keyboard as T
 use Rattle.keyboard.proofs.Keyboard.Laws as T′
-use Rattle.keyboard.proofs.Walk.{Sort, Pair, mach, plainly, value-ended0, lent-ended0, by-value0, lent0, value-ended1, lent-ended1, by-value1, lent1, value-ended2, lent-ended2, by-value2, lent2, value-endeds2, lent-endeds2, by-values2, lents2}
+use Rattle.keyboard.proofs.Walk.{Sort, Pair, mach, rowOf, pairTy, pairOf, value-ended0, lent-ended0, by-value0, lent0, value-ended1, lent-ended1, by-value1, lent1, value-ended2, lent-ended2, by-value2, lent2, value-endeds2, lent-endeds2, by-values2, lents2}
 
 -- the keyboard h behind the reference to the local at l, under the name δ
 abbrev lent-at : ℕ → GName → Keyboard → RefT Keyboard
@@ -57,16 +57,6 @@ ref = tyRef erased mut (pointee (T.the-row .written))
 
 abbrev bytes : Ty
 bytes = tyStruct sliceName (tcons (tyRef (named 0) imm (tyInt w8)) (tcons (tyInt w64) tnil))
-
--- the types of an answer and of the struct that has it and the keyboard, and that struct's MIR type
-abbrev answerOf : Sort → RattleType
-answerOf S = plainly (S .base) (S .τ)
-
-abbrev both : (S : Sort) → Pair S → Ty
-both S P = tyStruct (P .name) (tcons (S .τ) (tcons T′.mir tnil))
-
-abbrev bothOf : (S : Sort) → Pair S → RattleType
-bothOf S P = plainly (P .base) (both S P)
 
 module _ {M : Type 1} (𝓤 : URA M) (H : Heap 𝓤) (A : Atoms 𝓤) (W : Given 𝓤 H A) where
   typed : (h : Keyboard) → Is T.the-row h (mach h ∷ []) → Holds (hasTy T′.mir (mach h)) × WT (mach h)
@@ -102,7 +92,7 @@ module _ (S : Sort) (P : Pair S) (f : Name) (F : Keyboard → P .base .Denot) wh
     lifetimes = 0;
     outlives = [];
     params = 1;
-    locals = local (both S P) valueLocal ∷ local T′.mir valueLocal ∷ local T′.mir memorySlot ∷ local (S .τ) valueLocal ∷ local ref valueLocal ∷ local T′.mir valueLocal ∷ [];
+    locals = local (pairTy P) valueLocal ∷ local T′.mir valueLocal ∷ local T′.mir memorySlot ∷ local (S .τ) valueLocal ∷ local ref valueLocal ∷ local T′.mir valueLocal ∷ [];
     body = seq (assign (place 2 []) (rvOpd (copy (place 1 []))))
         (seq (assign (place 4 []) (addrOf (place 2 [])))
         (seq (call f (copy (place 4 []) ∷ []) (place 3 []))
@@ -131,10 +121,10 @@ module _ (S : Sort) (P : Pair S) (f : Name) (F : Keyboard → P .base .Denot) wh
       abbrev Post0 : Val → SProp 𝓤
       Post0 = walkOf 𝓤 H A by0 stayed0 value0 .post ((tt, tt, tt, (h, tt), (mach h ∷ [], tt)), tt)
 
-      exits0 : (v : Val) → Is (bothOf S P) (F h) (v ∷ []) → ent 𝓤 (emp 𝓤) (Post0 v)
+      exits0 : (v : Val) → Is (pairOf P) (F h) (v ∷ []) → ent 𝓤 (emp 𝓤) (Post0 v)
       exits0 v made =
           qed W [] ∵ suffices ! _ (ends-at 𝓤 H A by0 stayed0 value0 W ((tt, tt, tt, (h, tt), (mach h ∷ [], tt)), tt) v (F h) (tt, tt) (tt, tt)) $ says ! refl $
-          owned ! (bothOf S P) (Is (bothOf S P)) (P .makes M 𝓤 H A W) (F h) _ made $ nothing ! $ owned ! T.the-row (Is T.the-row) (LL.makes T.the-type T′.the-plain 𝓤 H A) h _ is $ fjoin ! $ nothing ! $ done !
+          owned ! (pairOf P) (Is (pairOf P)) (P .makes M 𝓤 H A W) (F h) _ made $ nothing ! $ owned ! T.the-row (Is T.the-row) (LL.makes T.the-type T′.the-plain 𝓤 H A) h _ is $ fjoin ! $ nothing ! $ done !
 
       -- what the lent call's triple binds outside: the local at l, lent for the lifetime α under the name δ
       abbrev to0 : ℕ → ℕ → GName → Lent0 .Ghost
@@ -157,10 +147,10 @@ module _ (S : Sort) (P : Pair S) (f : Name) (F : Keyboard → P .base .Denot) wh
             use1 W (later (some (λ (δ : GName). ‵ (MutRef (named 0) (α ∷ []) T.the-row .own (lent-at l2 δ h) (vptr l2 0 ∷ [])) ⊛ ‵ (flent (α ∷ []) (Body (mem T.the-row) l2 0 δ))))) (lends 𝓤 H A W (α ∷ []) h l2 is) $ await ! tt $ pick ! (λ δ. split ! $
             move ! (2 ∷ 0 ∷ []) $ use2 W (raw (Lent0 .pre (to0 α l2 δ))) (goes0 α l2 δ) $
             calls-at ! fm Lent0 known (to0 α l2 δ) (and-then ! (load ! (from ! (stop !)) (look ! 4 refl)) (no-more !)) (λ v.
-            use1 W (later (some (λ (r : S .base .Denot). ((‵ (flft (α ∷ []) fullShare) ⊛ ‵ ftrue) ⊛ ‵ (answerOf S .own r (v ∷ []))) ⊛ raw (ensured 𝓤 H A in0 (lent0 S P f F 𝓤 H A) (α ∷ [], tt) (lent-at l2 δ h, tt) tt r)))) (id⊢ 𝓤 _) $ await ! tt $ pick ! (λ r.
+            use1 W (later (some (λ (r : S .base .Denot). ((‵ (flft (α ∷ []) fullShare) ⊛ ‵ ftrue) ⊛ ‵ (rowOf S .own r (v ∷ []))) ⊛ raw (ensured 𝓤 H A in0 (lent0 S P f F 𝓤 H A) (α ∷ [], tt) (lent-at l2 δ h, tt) tt r)))) (id⊢ 𝓤 _) $ await ! tt $ pick ! (λ r.
             split ! $ move ! (1 ∷ []) $ use1 W (some (λ (ws : Keyboard × Unit {0}). ‵ (lasts in0 (α ∷ [], tt) (lent-at l2 δ h, tt) ws) ⊛ raw (fact 𝓤 ((r ≡ P .answer (F h)) × (ws .0 ≡ P .keyboard (F h)))))) (id⊢ 𝓤 _) $ pick ! (λ ws.
             split ! $ move ! (1 ∷ []) $ heard ! ((r ≡ P .answer (F h)) × (ws .0 ≡ P .keyboard (F h))) (λ e. fsplit ! $ move ! (2 ∷ []) $ split ! $ move ! (1 ∷ []) $
-            peeks ! (answerOf S) (Is (answerOf S)) (shows 𝓤 H A (answerOf S)) r (v ∷ []) (λ is′.
+            peeks ! (rowOf S) (Is (rowOf S)) (shows 𝓤 H A (rowOf S)) r (v ∷ []) (λ is′.
             -- [what the answer owns; the token; the last value; true; the lender's part; the locals, of the lent one its end alone]
             land ! (from ! (stop !)) (init ! 9 refl (S .typed M 𝓤 H A W r v is′ .0)) $ rewrite ! 9 (λ (u : Val). ‵ (fat fullShare (S .τ) l3 0 u)) (ap only (S .tells r _ is′)) refl $
             -- the lifetime is ended, and the local is back at the record that the call left
@@ -188,7 +178,7 @@ module _ (S : Sort) (B1 : Sort) (P : Pair S) (f : Name) (F : Keyboard → B1 .ba
     lifetimes = 0;
     outlives = [];
     params = 2;
-    locals = local (both S P) valueLocal ∷ local T′.mir valueLocal ∷ local (B1 .τ) valueLocal ∷ local T′.mir memorySlot ∷ local (S .τ) valueLocal ∷ local ref valueLocal ∷ local T′.mir valueLocal ∷ [];
+    locals = local (pairTy P) valueLocal ∷ local T′.mir valueLocal ∷ local (B1 .τ) valueLocal ∷ local T′.mir memorySlot ∷ local (S .τ) valueLocal ∷ local ref valueLocal ∷ local T′.mir valueLocal ∷ [];
     body = seq (assign (place 3 []) (rvOpd (copy (place 1 []))))
         (seq (assign (place 5 []) (addrOf (place 3 [])))
         (seq (call f (copy (place 5 []) ∷ copy (place 2 []) ∷ []) (place 4 []))
@@ -204,7 +194,7 @@ module _ (S : Sort) (B1 : Sort) (P : Pair S) (f : Name) (F : Keyboard → B1 .ba
   in1 = lent-ended1 S B1 P f F
 
   abbrev stayed1 : Stays (by1 .signature .params) (by1 .kept)
-  stayed1 = (stay-none (λ _. T.the-row) yes, (stay-none (λ _. (plainly (B1 .base) (B1 .τ))) yes, tt))
+  stayed1 = (stay-none (λ _. T.the-row) yes, (stay-none (λ _. rowOf B1) yes, tt))
 
   module _ {M : Type 1} (𝓤 : URA M) (H : Heap 𝓤) (A : Atoms 𝓤) where
     abbrev pub Lent1 : Contract 𝓤
@@ -213,14 +203,14 @@ module _ (S : Sort) (B1 : Sort) (P : Pair S) (f : Name) (F : Keyboard → B1 .ba
     abbrev value1 : Clauses 𝓤 by1
     value1 = by-value1 S B1 P f F 𝓤 H A
 
-    module _ (W : Given 𝓤 H A) (h : Keyboard) (y1 : B1 .base .Denot) (is : Is T.the-row h (mach h ∷ [])) (is1 : Is (plainly (B1 .base) (B1 .τ)) y1 (B1 .val y1 ∷ [])) where
+    module _ (W : Given 𝓤 H A) (h : Keyboard) (y1 : B1 .base .Denot) (is : Is T.the-row h (mach h ∷ [])) (is1 : Is (rowOf B1) y1 (B1 .val y1 ∷ [])) where
       abbrev Post1 : Val → SProp 𝓤
       Post1 = walkOf 𝓤 H A by1 stayed1 value1 .post ((tt, tt, tt, (h, (y1, tt)), (mach h ∷ [], (B1 .val y1 ∷ [], tt))), tt)
 
-      exits1 : (v : Val) → Is (bothOf S P) (F h y1) (v ∷ []) → ent 𝓤 (emp 𝓤) (Post1 v)
+      exits1 : (v : Val) → Is (pairOf P) (F h y1) (v ∷ []) → ent 𝓤 (emp 𝓤) (Post1 v)
       exits1 v made =
           qed W [] ∵ suffices ! _ (ends-at 𝓤 H A by1 stayed1 value1 W ((tt, tt, tt, (h, (y1, tt)), (mach h ∷ [], (B1 .val y1 ∷ [], tt))), tt) v (F h y1) (tt, (tt, tt)) (tt, (tt, tt))) $ says ! refl $
-          owned ! (bothOf S P) (Is (bothOf S P)) (P .makes M 𝓤 H A W) (F h y1) _ made $ nothing ! $ owned ! (plainly (B1 .base) (B1 .τ)) (Is (plainly (B1 .base) (B1 .τ))) (B1 .makes M 𝓤 H A W) y1 _ is1 $ fjoin ! $ owned ! T.the-row (Is T.the-row) (LL.makes T.the-type T′.the-plain 𝓤 H A) h _ is $ fjoin ! $ nothing ! $ done !
+          owned ! (pairOf P) (Is (pairOf P)) (P .makes M 𝓤 H A W) (F h y1) _ made $ nothing ! $ owned ! (rowOf B1) (Is (rowOf B1)) (B1 .makes M 𝓤 H A W) y1 _ is1 $ fjoin ! $ owned ! T.the-row (Is T.the-row) (LL.makes T.the-type T′.the-plain 𝓤 H A) h _ is $ fjoin ! $ nothing ! $ done !
 
       -- what the lent call's triple binds outside: the local at l, lent for the lifetime α under the name δ
       abbrev to1 : ℕ → ℕ → GName → Lent1 .Ghost
@@ -228,12 +218,12 @@ module _ (S : Sort) (B1 : Sort) (P : Pair S) (f : Name) (F : Keyboard → B1 .ba
 
       goes1 : (α l : ℕ) (δ : GName) → ent 𝓤 (⋆ 𝓤 H A (‵ (flft (α ∷ []) fullShare) ∷ ‵ (MutRef (named 0) (α ∷ []) T.the-row .own (lent-at l δ h) (vptr l 0 ∷ [])) ∷ [])) (Lent1 .pre (to1 α l δ))
       goes1 α l δ = qed W (‵ (flft (α ∷ []) fullShare) ∷ ‵ (MutRef (named 0) (α ∷ []) T.the-row .own (lent-at l δ h) (vptr l 0 ∷ [])) ∷ []) ∵
-          nothing ! $ owned ! (plainly (B1 .base) (B1 .τ)) (Is (plainly (B1 .base) (B1 .τ))) (B1 .makes M 𝓤 H A W) y1 _ is1 $ fjoin ! $ move ! (2 ∷ 0 ∷ []) $ fjoin ! $ nothing ! $ move ! (2 ∷ 0 ∷ []) $ join ! $ join ! $ frame ! $ done !
+          nothing ! $ owned ! (rowOf B1) (Is (rowOf B1)) (B1 .makes M 𝓤 H A W) y1 _ is1 $ fjoin ! $ move ! (2 ∷ 0 ∷ []) $ fjoin ! $ nothing ! $ move ! (2 ∷ 0 ∷ []) $ join ! $ join ! $ frame ! $ done !
 
       module _ (C : Calls 𝓤 H) (Λ : Loops 𝓤 H) (fm : FmC 𝓤 H (W .laws) C) (known : Triple 𝓤 (C f) Lent1) where
         walk1 : ent 𝓤 (onEntry 𝓤 H A (by1 .signature) tt tt (h, (y1, tt)) (mach h ∷ [], (B1 .val y1 ∷ [], tt))) (WpFn 𝓤 H C Λ through1 (mach h ∷ B1 .val y1 ∷ []) Post1)
         walk1 =
-            qed W (‵ ftrue ∷ ‵ (owns (T.the-row ∷ (plainly (B1 .base) (B1 .τ)) ∷ []) (h, (y1, tt)) (mach h ∷ [], (B1 .val y1 ∷ [], tt))) ∷ []) ∵ keep ! [] $ enter ! C Λ through1 (mach h ∷ B1 .val y1 ∷ []) _ $
+            qed W (‵ ftrue ∷ ‵ (owns (T.the-row ∷ (rowOf B1) ∷ []) (h, (y1, tt)) (mach h ∷ [], (B1 .val y1 ∷ [], tt))) ∷ []) ∵ keep ! [] $ enter ! C Λ through1 (mach h ∷ B1 .val y1 ∷ []) _ $
             alloc1 ! (λ l0. alloc1 ! (λ l1. alloc1 ! (λ l2. alloc1 ! (λ l3. alloc1 ! (λ l4. alloc1 ! (λ l5. alloc1 ! (λ l6. alloc0 ! $ params1 ! $ pass1 ! (init ! 10 refl (typed 𝓤 H A W h is)) $ pass1 ! (init ! 8 refl (B1 .typed M 𝓤 H A W y1 _ is1 .0)) $ pass0 ! $
             -- [the locals from the last to _0, each with its end]
             assigns ! (of-opd ! (load ! (from ! (stop !)) (look ! 10 refl))) (from ! (stop !)) (init ! 6 refl (typed 𝓤 H A W h is)) $
@@ -243,10 +233,10 @@ module _ (S : Sort) (B1 : Sort) (P : Pair S) (f : Name) (F : Keyboard → B1 .ba
             use1 W (later (some (λ (δ : GName). ‵ (MutRef (named 0) (α ∷ []) T.the-row .own (lent-at l3 δ h) (vptr l3 0 ∷ [])) ⊛ ‵ (flent (α ∷ []) (Body (mem T.the-row) l3 0 δ))))) (lends 𝓤 H A W (α ∷ []) h l3 is) $ await ! tt $ pick ! (λ δ. split ! $
             move ! (2 ∷ 0 ∷ []) $ use2 W (raw (Lent1 .pre (to1 α l3 δ))) (goes1 α l3 δ) $
             calls-at ! fm Lent1 known (to1 α l3 δ) (and-then ! (load ! (from ! (stop !)) (look ! 4 refl)) (and-then ! (load ! (from ! (stop !)) (look ! 9 refl)) (no-more !))) (λ v.
-            use1 W (later (some (λ (r : S .base .Denot). ((‵ (flft (α ∷ []) fullShare) ⊛ ‵ ftrue) ⊛ ‵ (answerOf S .own r (v ∷ []))) ⊛ raw (ensured 𝓤 H A in1 (lent1 S B1 P f F 𝓤 H A) (α ∷ [], tt) (lent-at l3 δ h, (y1, tt)) tt r)))) (id⊢ 𝓤 _) $ await ! tt $ pick ! (λ r.
+            use1 W (later (some (λ (r : S .base .Denot). ((‵ (flft (α ∷ []) fullShare) ⊛ ‵ ftrue) ⊛ ‵ (rowOf S .own r (v ∷ []))) ⊛ raw (ensured 𝓤 H A in1 (lent1 S B1 P f F 𝓤 H A) (α ∷ [], tt) (lent-at l3 δ h, (y1, tt)) tt r)))) (id⊢ 𝓤 _) $ await ! tt $ pick ! (λ r.
             split ! $ move ! (1 ∷ []) $ use1 W (some (λ (ws : Keyboard × (Unit {0} × Unit {0})). ‵ (lasts in1 (α ∷ [], tt) (lent-at l3 δ h, (y1, tt)) ws) ⊛ raw (fact 𝓤 ((r ≡ P .answer (F h y1)) × (ws .0 ≡ P .keyboard (F h y1)))))) (id⊢ 𝓤 _) $ pick ! (λ ws.
             split ! $ move ! (1 ∷ []) $ heard ! ((r ≡ P .answer (F h y1)) × (ws .0 ≡ P .keyboard (F h y1))) (λ e. fsplit ! $ move ! (2 ∷ []) $ split ! $ move ! (1 ∷ []) $
-            peeks ! (answerOf S) (Is (answerOf S)) (shows 𝓤 H A (answerOf S)) r (v ∷ []) (λ is′.
+            peeks ! (rowOf S) (Is (rowOf S)) (shows 𝓤 H A (rowOf S)) r (v ∷ []) (λ is′.
             -- [what the answer owns; the token; the last value; true; the lender's part; the locals, of the lent one its end alone]
             land ! (from ! (stop !)) (init ! 9 refl (S .typed M 𝓤 H A W r v is′ .0)) $ rewrite ! 9 (λ (u : Val). ‵ (fat fullShare (S .τ) l4 0 u)) (ap only (S .tells r _ is′)) refl $
             -- the lifetime is ended, and the local is back at the record that the call left
@@ -264,7 +254,7 @@ module _ (S : Sort) (B1 : Sort) (P : Pair S) (f : Name) (F : Keyboard → B1 .ba
         (λ κs qs bounds a g are. via 𝓤 _ (fst∗ 𝓤 _ (emp 𝓤)) (walk1 W (a .0) (a .1 .0) (are .0) (are .1 .0) C Λ fm known))
 
     pub meets1 : Given 𝓤 H A → (𝓣 : Tables 𝓤 H) → Triple 𝓤 (𝓣 .C f) Lent1 → Meets 𝓤 H A (by1 .signature) (WpFn 𝓤 H (𝓣 .C) (𝓣 .Λ) through1) (closing 𝓤 H A by1 value1)
-    meets1 W 𝓣 known = walk-meets 𝓤 H A by1 stayed1 W (goes-none 𝓤 H A W 0 (λ _. T.the-row) yes (λ κs x g. refl), (goes-none 𝓤 H A W 0 (λ _. (plainly (B1 .base) (B1 .τ))) yes (λ κs x g. refl), tt)) value1
+    meets1 W 𝓣 known = walk-meets 𝓤 H A by1 stayed1 W (goes-none 𝓤 H A W 0 (λ _. T.the-row) yes (λ κs x g. refl), (goes-none 𝓤 H A W 0 (λ _. rowOf B1) yes (λ κs x g. refl), tt)) value1
         (WpFn 𝓤 H (𝓣 .C) (𝓣 .Λ) through1) (WpFn-mono 𝓤 H (W .laws) 𝓣 through1) (walks1 W (𝓣 .C) (𝓣 .Λ) (fmOf 𝓤 H (W .laws) 𝓣) known)
 
 -- ---- 2 arguments beside the keyboard
@@ -274,7 +264,7 @@ module _ (S : Sort) (B1 : Sort) (B2 : Sort) (P : Pair S) (f : Name) (F : Keyboar
     lifetimes = 0;
     outlives = [];
     params = 3;
-    locals = local (both S P) valueLocal ∷ local T′.mir valueLocal ∷ local (B1 .τ) valueLocal ∷ local (B2 .τ) valueLocal ∷ local T′.mir memorySlot ∷ local (S .τ) valueLocal ∷ local ref valueLocal ∷ local T′.mir valueLocal ∷ [];
+    locals = local (pairTy P) valueLocal ∷ local T′.mir valueLocal ∷ local (B1 .τ) valueLocal ∷ local (B2 .τ) valueLocal ∷ local T′.mir memorySlot ∷ local (S .τ) valueLocal ∷ local ref valueLocal ∷ local T′.mir valueLocal ∷ [];
     body = seq (assign (place 4 []) (rvOpd (copy (place 1 []))))
         (seq (assign (place 6 []) (addrOf (place 4 [])))
         (seq (call f (copy (place 6 []) ∷ copy (place 2 []) ∷ copy (place 3 []) ∷ []) (place 5 []))
@@ -290,7 +280,7 @@ module _ (S : Sort) (B1 : Sort) (B2 : Sort) (P : Pair S) (f : Name) (F : Keyboar
   in2 = lent-ended2 S B1 B2 P f F
 
   abbrev stayed2 : Stays (by2 .signature .params) (by2 .kept)
-  stayed2 = (stay-none (λ _. T.the-row) yes, (stay-none (λ _. (plainly (B1 .base) (B1 .τ))) yes, (stay-none (λ _. (plainly (B2 .base) (B2 .τ))) yes, tt)))
+  stayed2 = (stay-none (λ _. T.the-row) yes, (stay-none (λ _. rowOf B1) yes, (stay-none (λ _. rowOf B2) yes, tt)))
 
   module _ {M : Type 1} (𝓤 : URA M) (H : Heap 𝓤) (A : Atoms 𝓤) where
     abbrev pub Lent2 : Contract 𝓤
@@ -299,14 +289,14 @@ module _ (S : Sort) (B1 : Sort) (B2 : Sort) (P : Pair S) (f : Name) (F : Keyboar
     abbrev value2 : Clauses 𝓤 by2
     value2 = by-value2 S B1 B2 P f F 𝓤 H A
 
-    module _ (W : Given 𝓤 H A) (h : Keyboard) (y1 : B1 .base .Denot) (y2 : B2 .base .Denot) (is : Is T.the-row h (mach h ∷ [])) (is1 : Is (plainly (B1 .base) (B1 .τ)) y1 (B1 .val y1 ∷ [])) (is2 : Is (plainly (B2 .base) (B2 .τ)) y2 (B2 .val y2 ∷ [])) where
+    module _ (W : Given 𝓤 H A) (h : Keyboard) (y1 : B1 .base .Denot) (y2 : B2 .base .Denot) (is : Is T.the-row h (mach h ∷ [])) (is1 : Is (rowOf B1) y1 (B1 .val y1 ∷ [])) (is2 : Is (rowOf B2) y2 (B2 .val y2 ∷ [])) where
       abbrev Post2 : Val → SProp 𝓤
       Post2 = walkOf 𝓤 H A by2 stayed2 value2 .post ((tt, tt, tt, (h, (y1, (y2, tt))), (mach h ∷ [], (B1 .val y1 ∷ [], (B2 .val y2 ∷ [], tt)))), tt)
 
-      exits2 : (v : Val) → Is (bothOf S P) (F h y1 y2) (v ∷ []) → ent 𝓤 (emp 𝓤) (Post2 v)
+      exits2 : (v : Val) → Is (pairOf P) (F h y1 y2) (v ∷ []) → ent 𝓤 (emp 𝓤) (Post2 v)
       exits2 v made =
           qed W [] ∵ suffices ! _ (ends-at 𝓤 H A by2 stayed2 value2 W ((tt, tt, tt, (h, (y1, (y2, tt))), (mach h ∷ [], (B1 .val y1 ∷ [], (B2 .val y2 ∷ [], tt)))), tt) v (F h y1 y2) (tt, (tt, (tt, tt))) (tt, (tt, (tt, tt)))) $ says ! refl $
-          owned ! (bothOf S P) (Is (bothOf S P)) (P .makes M 𝓤 H A W) (F h y1 y2) _ made $ nothing ! $ owned ! (plainly (B2 .base) (B2 .τ)) (Is (plainly (B2 .base) (B2 .τ))) (B2 .makes M 𝓤 H A W) y2 _ is2 $ fjoin ! $ owned ! (plainly (B1 .base) (B1 .τ)) (Is (plainly (B1 .base) (B1 .τ))) (B1 .makes M 𝓤 H A W) y1 _ is1 $ fjoin ! $ owned ! T.the-row (Is T.the-row) (LL.makes T.the-type T′.the-plain 𝓤 H A) h _ is $ fjoin ! $ nothing ! $ done !
+          owned ! (pairOf P) (Is (pairOf P)) (P .makes M 𝓤 H A W) (F h y1 y2) _ made $ nothing ! $ owned ! (rowOf B2) (Is (rowOf B2)) (B2 .makes M 𝓤 H A W) y2 _ is2 $ fjoin ! $ owned ! (rowOf B1) (Is (rowOf B1)) (B1 .makes M 𝓤 H A W) y1 _ is1 $ fjoin ! $ owned ! T.the-row (Is T.the-row) (LL.makes T.the-type T′.the-plain 𝓤 H A) h _ is $ fjoin ! $ nothing ! $ done !
 
       -- what the lent call's triple binds outside: the local at l, lent for the lifetime α under the name δ
       abbrev to2 : ℕ → ℕ → GName → Lent2 .Ghost
@@ -314,12 +304,12 @@ module _ (S : Sort) (B1 : Sort) (B2 : Sort) (P : Pair S) (f : Name) (F : Keyboar
 
       goes2 : (α l : ℕ) (δ : GName) → ent 𝓤 (⋆ 𝓤 H A (‵ (flft (α ∷ []) fullShare) ∷ ‵ (MutRef (named 0) (α ∷ []) T.the-row .own (lent-at l δ h) (vptr l 0 ∷ [])) ∷ [])) (Lent2 .pre (to2 α l δ))
       goes2 α l δ = qed W (‵ (flft (α ∷ []) fullShare) ∷ ‵ (MutRef (named 0) (α ∷ []) T.the-row .own (lent-at l δ h) (vptr l 0 ∷ [])) ∷ []) ∵
-          nothing ! $ owned ! (plainly (B2 .base) (B2 .τ)) (Is (plainly (B2 .base) (B2 .τ))) (B2 .makes M 𝓤 H A W) y2 _ is2 $ fjoin ! $ owned ! (plainly (B1 .base) (B1 .τ)) (Is (plainly (B1 .base) (B1 .τ))) (B1 .makes M 𝓤 H A W) y1 _ is1 $ fjoin ! $ move ! (2 ∷ 0 ∷ []) $ fjoin ! $ nothing ! $ move ! (2 ∷ 0 ∷ []) $ join ! $ join ! $ frame ! $ done !
+          nothing ! $ owned ! (rowOf B2) (Is (rowOf B2)) (B2 .makes M 𝓤 H A W) y2 _ is2 $ fjoin ! $ owned ! (rowOf B1) (Is (rowOf B1)) (B1 .makes M 𝓤 H A W) y1 _ is1 $ fjoin ! $ move ! (2 ∷ 0 ∷ []) $ fjoin ! $ nothing ! $ move ! (2 ∷ 0 ∷ []) $ join ! $ join ! $ frame ! $ done !
 
       module _ (C : Calls 𝓤 H) (Λ : Loops 𝓤 H) (fm : FmC 𝓤 H (W .laws) C) (known : Triple 𝓤 (C f) Lent2) where
         walk2 : ent 𝓤 (onEntry 𝓤 H A (by2 .signature) tt tt (h, (y1, (y2, tt))) (mach h ∷ [], (B1 .val y1 ∷ [], (B2 .val y2 ∷ [], tt)))) (WpFn 𝓤 H C Λ through2 (mach h ∷ B1 .val y1 ∷ B2 .val y2 ∷ []) Post2)
         walk2 =
-            qed W (‵ ftrue ∷ ‵ (owns (T.the-row ∷ (plainly (B1 .base) (B1 .τ)) ∷ (plainly (B2 .base) (B2 .τ)) ∷ []) (h, (y1, (y2, tt))) (mach h ∷ [], (B1 .val y1 ∷ [], (B2 .val y2 ∷ [], tt)))) ∷ []) ∵ keep ! [] $ enter ! C Λ through2 (mach h ∷ B1 .val y1 ∷ B2 .val y2 ∷ []) _ $
+            qed W (‵ ftrue ∷ ‵ (owns (T.the-row ∷ (rowOf B1) ∷ (rowOf B2) ∷ []) (h, (y1, (y2, tt))) (mach h ∷ [], (B1 .val y1 ∷ [], (B2 .val y2 ∷ [], tt)))) ∷ []) ∵ keep ! [] $ enter ! C Λ through2 (mach h ∷ B1 .val y1 ∷ B2 .val y2 ∷ []) _ $
             alloc1 ! (λ l0. alloc1 ! (λ l1. alloc1 ! (λ l2. alloc1 ! (λ l3. alloc1 ! (λ l4. alloc1 ! (λ l5. alloc1 ! (λ l6. alloc1 ! (λ l7. alloc0 ! $ params1 ! $ pass1 ! (init ! 12 refl (typed 𝓤 H A W h is)) $ pass1 ! (init ! 10 refl (B1 .typed M 𝓤 H A W y1 _ is1 .0)) $ pass1 ! (init ! 8 refl (B2 .typed M 𝓤 H A W y2 _ is2 .0)) $ pass0 ! $
             -- [the locals from the last to _0, each with its end]
             assigns ! (of-opd ! (load ! (from ! (stop !)) (look ! 12 refl))) (from ! (stop !)) (init ! 6 refl (typed 𝓤 H A W h is)) $
@@ -329,10 +319,10 @@ module _ (S : Sort) (B1 : Sort) (B2 : Sort) (P : Pair S) (f : Name) (F : Keyboar
             use1 W (later (some (λ (δ : GName). ‵ (MutRef (named 0) (α ∷ []) T.the-row .own (lent-at l4 δ h) (vptr l4 0 ∷ [])) ⊛ ‵ (flent (α ∷ []) (Body (mem T.the-row) l4 0 δ))))) (lends 𝓤 H A W (α ∷ []) h l4 is) $ await ! tt $ pick ! (λ δ. split ! $
             move ! (2 ∷ 0 ∷ []) $ use2 W (raw (Lent2 .pre (to2 α l4 δ))) (goes2 α l4 δ) $
             calls-at ! fm Lent2 known (to2 α l4 δ) (and-then ! (load ! (from ! (stop !)) (look ! 4 refl)) (and-then ! (load ! (from ! (stop !)) (look ! 11 refl)) (and-then ! (load ! (from ! (stop !)) (look ! 9 refl)) (no-more !)))) (λ v.
-            use1 W (later (some (λ (r : S .base .Denot). ((‵ (flft (α ∷ []) fullShare) ⊛ ‵ ftrue) ⊛ ‵ (answerOf S .own r (v ∷ []))) ⊛ raw (ensured 𝓤 H A in2 (lent2 S B1 B2 P f F 𝓤 H A) (α ∷ [], tt) (lent-at l4 δ h, (y1, (y2, tt))) tt r)))) (id⊢ 𝓤 _) $ await ! tt $ pick ! (λ r.
+            use1 W (later (some (λ (r : S .base .Denot). ((‵ (flft (α ∷ []) fullShare) ⊛ ‵ ftrue) ⊛ ‵ (rowOf S .own r (v ∷ []))) ⊛ raw (ensured 𝓤 H A in2 (lent2 S B1 B2 P f F 𝓤 H A) (α ∷ [], tt) (lent-at l4 δ h, (y1, (y2, tt))) tt r)))) (id⊢ 𝓤 _) $ await ! tt $ pick ! (λ r.
             split ! $ move ! (1 ∷ []) $ use1 W (some (λ (ws : Keyboard × (Unit {0} × (Unit {0} × Unit {0}))). ‵ (lasts in2 (α ∷ [], tt) (lent-at l4 δ h, (y1, (y2, tt))) ws) ⊛ raw (fact 𝓤 ((r ≡ P .answer (F h y1 y2)) × (ws .0 ≡ P .keyboard (F h y1 y2)))))) (id⊢ 𝓤 _) $ pick ! (λ ws.
             split ! $ move ! (1 ∷ []) $ heard ! ((r ≡ P .answer (F h y1 y2)) × (ws .0 ≡ P .keyboard (F h y1 y2))) (λ e. fsplit ! $ move ! (2 ∷ []) $ split ! $ move ! (1 ∷ []) $
-            peeks ! (answerOf S) (Is (answerOf S)) (shows 𝓤 H A (answerOf S)) r (v ∷ []) (λ is′.
+            peeks ! (rowOf S) (Is (rowOf S)) (shows 𝓤 H A (rowOf S)) r (v ∷ []) (λ is′.
             -- [what the answer owns; the token; the last value; true; the lender's part; the locals, of the lent one its end alone]
             land ! (from ! (stop !)) (init ! 9 refl (S .typed M 𝓤 H A W r v is′ .0)) $ rewrite ! 9 (λ (u : Val). ‵ (fat fullShare (S .τ) l5 0 u)) (ap only (S .tells r _ is′)) refl $
             -- the lifetime is ended, and the local is back at the record that the call left
@@ -350,7 +340,7 @@ module _ (S : Sort) (B1 : Sort) (B2 : Sort) (P : Pair S) (f : Name) (F : Keyboar
         (λ κs qs bounds a g are. via 𝓤 _ (fst∗ 𝓤 _ (emp 𝓤)) (walk2 W (a .0) (a .1 .0) (a .1 .1 .0) (are .0) (are .1 .0) (are .1 .1 .0) C Λ fm known))
 
     pub meets2 : Given 𝓤 H A → (𝓣 : Tables 𝓤 H) → Triple 𝓤 (𝓣 .C f) Lent2 → Meets 𝓤 H A (by2 .signature) (WpFn 𝓤 H (𝓣 .C) (𝓣 .Λ) through2) (closing 𝓤 H A by2 value2)
-    meets2 W 𝓣 known = walk-meets 𝓤 H A by2 stayed2 W (goes-none 𝓤 H A W 0 (λ _. T.the-row) yes (λ κs x g. refl), (goes-none 𝓤 H A W 0 (λ _. (plainly (B1 .base) (B1 .τ))) yes (λ κs x g. refl), (goes-none 𝓤 H A W 0 (λ _. (plainly (B2 .base) (B2 .τ))) yes (λ κs x g. refl), tt))) value2
+    meets2 W 𝓣 known = walk-meets 𝓤 H A by2 stayed2 W (goes-none 𝓤 H A W 0 (λ _. T.the-row) yes (λ κs x g. refl), (goes-none 𝓤 H A W 0 (λ _. rowOf B1) yes (λ κs x g. refl), (goes-none 𝓤 H A W 0 (λ _. rowOf B2) yes (λ κs x g. refl), tt))) value2
         (WpFn 𝓤 H (𝓣 .C) (𝓣 .Λ) through2) (WpFn-mono 𝓤 H (W .laws) 𝓣 through2) (walks2 W (𝓣 .C) (𝓣 .Λ) (fmOf 𝓤 H (W .laws) 𝓣) known)
 
 -- ---- 2 arguments beside the keyboard, and a lent slice of bytes after them
@@ -360,7 +350,7 @@ module _ (S : Sort) (B1 : Sort) (B2 : Sort) (P : Pair S) (f : Name) (F : Keyboar
     lifetimes = 1;
     outlives = [];
     params = 4;
-    locals = local (both S P) valueLocal ∷ local T′.mir valueLocal ∷ local (B1 .τ) valueLocal ∷ local (B2 .τ) valueLocal ∷ local bytes valueLocal ∷ local T′.mir memorySlot ∷ local (S .τ) valueLocal ∷ local ref valueLocal ∷ local T′.mir valueLocal ∷ [];
+    locals = local (pairTy P) valueLocal ∷ local T′.mir valueLocal ∷ local (B1 .τ) valueLocal ∷ local (B2 .τ) valueLocal ∷ local bytes valueLocal ∷ local T′.mir memorySlot ∷ local (S .τ) valueLocal ∷ local ref valueLocal ∷ local T′.mir valueLocal ∷ [];
     body = seq (assign (place 5 []) (rvOpd (copy (place 1 []))))
         (seq (assign (place 7 []) (addrOf (place 5 [])))
         (seq (call f (copy (place 7 []) ∷ copy (place 2 []) ∷ copy (place 3 []) ∷ copy (place 4 []) ∷ []) (place 6 []))
@@ -376,7 +366,7 @@ module _ (S : Sort) (B1 : Sort) (B2 : Sort) (P : Pair S) (f : Name) (F : Keyboar
   ins2 = lent-endeds2 S B1 B2 P f F
 
   abbrev stayeds2 : Stays (bys2 .signature .params) (bys2 .kept)
-  stayeds2 = (stay-none (λ _. T.the-row) yes, (stay-none (λ _. (plainly (B1 .base) (B1 .τ))) yes, (stay-none (λ _. (plainly (B2 .base) (B2 .τ))) yes, (stay-none-slice (0 ∷ []) tt (plain (λ _. u8)) yes, tt))))
+  stayeds2 = (stay-none (λ _. T.the-row) yes, (stay-none (λ _. rowOf B1) yes, (stay-none (λ _. rowOf B2) yes, (stay-none-slice (0 ∷ []) tt (plain (λ _. u8)) yes, tt))))
 
   module _ {M : Type 1} (𝓤 : URA M) (H : Heap 𝓤) (A : Atoms 𝓤) where
     abbrev pub Lents2 : Contract 𝓤
@@ -385,17 +375,17 @@ module _ (S : Sort) (B1 : Sort) (B2 : Sort) (P : Pair S) (f : Name) (F : Keyboar
     abbrev values2 : Clauses 𝓤 bys2
     values2 = by-values2 S B1 B2 P f F 𝓤 H A
 
-    module _ (W : Given 𝓤 H A) (κ : Lft) (q : Share) (h : Keyboard) (y1 : B1 .base .Denot) (y2 : B2 .base .Denot) (z : RefT (List ℕ)) (is : Is T.the-row h (mach h ∷ [])) (is1 : Is (plainly (B1 .base) (B1 .τ)) y1 (B1 .val y1 ∷ [])) (is2 : Is (plainly (B2 .base) (B2 .τ)) y2 (B2 .val y2 ∷ [])) (isz : Is (ShrSlice (named 0) κ u8) z (slice-vals z)) where
+    module _ (W : Given 𝓤 H A) (κ : Lft) (q : Share) (h : Keyboard) (y1 : B1 .base .Denot) (y2 : B2 .base .Denot) (z : RefT (List ℕ)) (is : Is T.the-row h (mach h ∷ [])) (is1 : Is (rowOf B1) y1 (B1 .val y1 ∷ [])) (is2 : Is (rowOf B2) y2 (B2 .val y2 ∷ [])) (isz : Is (ShrSlice (named 0) κ u8) z (slice-vals z)) where
       abbrev Bytess2 : Fml
       Bytess2 = ShrSlice (named 0) κ u8 .own z (slice-vals z)
 
       abbrev Posts2 : Val → SProp 𝓤
       Posts2 = walkOf 𝓤 H A bys2 stayeds2 values2 .post (((κ, tt), (q, tt), tt, (h, (y1, (y2, (z, tt)))), (mach h ∷ [], (B1 .val y1 ∷ [], (B2 .val y2 ∷ [], (slice-vals z, tt))))), tt)
 
-      exitss2 : (v : Val) → Is (bothOf S P) (F h y1 y2 (now z)) (v ∷ []) → ent 𝓤 (⋆ 𝓤 H A ((‵ (flft κ q) ⊛ ‵ ftrue) ∷ ‵ Bytess2 ∷ [])) (Posts2 v)
+      exitss2 : (v : Val) → Is (pairOf P) (F h y1 y2 (now z)) (v ∷ []) → ent 𝓤 (⋆ 𝓤 H A ((‵ (flft κ q) ⊛ ‵ ftrue) ∷ ‵ Bytess2 ∷ [])) (Posts2 v)
       exitss2 v made =
           qed W ((‵ (flft κ q) ⊛ ‵ ftrue) ∷ ‵ Bytess2 ∷ []) ∵ suffices ! _ (ends-at 𝓤 H A bys2 stayeds2 values2 W (((κ, tt), (q, tt), tt, (h, (y1, (y2, (z, tt)))), (mach h ∷ [], (B1 .val y1 ∷ [], (B2 .val y2 ∷ [], (slice-vals z, tt))))), tt) v (F h y1 y2 (now z)) (tt, (tt, (tt, (tt, tt)))) (tt, (tt, (tt, (tt, tt))))) $ says ! refl $ frame ! $
-          owned ! (bothOf S P) (Is (bothOf S P)) (P .makes M 𝓤 H A W) (F h y1 y2 (now z)) _ made $ nothing ! $ move ! (2 ∷ 0 ∷ []) $ fjoin ! $ owned ! (plainly (B2 .base) (B2 .τ)) (Is (plainly (B2 .base) (B2 .τ))) (B2 .makes M 𝓤 H A W) y2 _ is2 $ fjoin ! $ owned ! (plainly (B1 .base) (B1 .τ)) (Is (plainly (B1 .base) (B1 .τ))) (B1 .makes M 𝓤 H A W) y1 _ is1 $ fjoin ! $ owned ! T.the-row (Is T.the-row) (LL.makes T.the-type T′.the-plain 𝓤 H A) h _ is $ fjoin ! $ done !
+          owned ! (pairOf P) (Is (pairOf P)) (P .makes M 𝓤 H A W) (F h y1 y2 (now z)) _ made $ nothing ! $ move ! (2 ∷ 0 ∷ []) $ fjoin ! $ owned ! (rowOf B2) (Is (rowOf B2)) (B2 .makes M 𝓤 H A W) y2 _ is2 $ fjoin ! $ owned ! (rowOf B1) (Is (rowOf B1)) (B1 .makes M 𝓤 H A W) y1 _ is1 $ fjoin ! $ owned ! T.the-row (Is T.the-row) (LL.makes T.the-type T′.the-plain 𝓤 H A) h _ is $ fjoin ! $ done !
 
       -- what the lent call's triple binds outside: the local at l, lent for the lifetime α under the name δ
       abbrev tos2 : ℕ → ℕ → GName → Lents2 .Ghost
@@ -403,12 +393,12 @@ module _ (S : Sort) (B1 : Sort) (B2 : Sort) (P : Pair S) (f : Name) (F : Keyboar
 
       goess2 : (α l : ℕ) (δ : GName) → ent 𝓤 (⋆ 𝓤 H A ((‵ (flft (α ∷ []) fullShare) ⊛ ‵ (flft κ q) ⊛ ‵ ftrue) ∷ ‵ (MutRef (named 0) (α ∷ []) T.the-row .own (lent-at l δ h) (vptr l 0 ∷ [])) ∷ ‵ Bytess2 ∷ [])) (Lents2 .pre (tos2 α l δ))
       goess2 α l δ = qed W ((‵ (flft (α ∷ []) fullShare) ⊛ ‵ (flft κ q) ⊛ ‵ ftrue) ∷ ‵ (MutRef (named 0) (α ∷ []) T.the-row .own (lent-at l δ h) (vptr l 0 ∷ [])) ∷ ‵ Bytess2 ∷ []) ∵
-          nothing ! $ move ! (3 ∷ 0 ∷ []) $ fjoin ! $ owned ! (plainly (B2 .base) (B2 .τ)) (Is (plainly (B2 .base) (B2 .τ))) (B2 .makes M 𝓤 H A W) y2 _ is2 $ fjoin ! $ owned ! (plainly (B1 .base) (B1 .τ)) (Is (plainly (B1 .base) (B1 .τ))) (B1 .makes M 𝓤 H A W) y1 _ is1 $ fjoin ! $ move ! (2 ∷ 0 ∷ []) $ fjoin ! $ move ! (1 ∷ 0 ∷ []) $ join ! $ frame ! $ done !
+          nothing ! $ move ! (3 ∷ 0 ∷ []) $ fjoin ! $ owned ! (rowOf B2) (Is (rowOf B2)) (B2 .makes M 𝓤 H A W) y2 _ is2 $ fjoin ! $ owned ! (rowOf B1) (Is (rowOf B1)) (B1 .makes M 𝓤 H A W) y1 _ is1 $ fjoin ! $ move ! (2 ∷ 0 ∷ []) $ fjoin ! $ move ! (1 ∷ 0 ∷ []) $ join ! $ frame ! $ done !
 
       module _ (C : Calls 𝓤 H) (Λ : Loops 𝓤 H) (fm : FmC 𝓤 H (W .laws) C) (known : Triple 𝓤 (C f) Lents2) where
         walk-s2 : ent 𝓤 (onEntry 𝓤 H A (bys2 .signature) (κ, tt) (q, tt) (h, (y1, (y2, (z, tt)))) (mach h ∷ [], (B1 .val y1 ∷ [], (B2 .val y2 ∷ [], (slice-vals z, tt))))) (WpFn 𝓤 H C Λ throughs2 (mach h ∷ B1 .val y1 ∷ B2 .val y2 ∷ only (slice-vals z) ∷ []) Posts2)
         walk-s2 =
-            qed W ((‵ (flft κ q) ⊛ ‵ ftrue) ∷ ‵ (owns (T.the-row ∷ (plainly (B1 .base) (B1 .τ)) ∷ (plainly (B2 .base) (B2 .τ)) ∷ ShrSlice (named 0) κ u8 ∷ []) (h, (y1, (y2, (z, tt)))) (mach h ∷ [], (B1 .val y1 ∷ [], (B2 .val y2 ∷ [], (slice-vals z, tt))))) ∷ []) ∵ move ! (1 ∷ []) $ fsplit ! $ drop ! $ fsplit ! $ drop ! $ fsplit ! $ drop ! $ fsplit ! $ keep ! (0 ∷ 2 ∷ []) $ use1 W (‵ Bytess2 ⊛ ‵ Bytess2) (shr-slice-copy 𝓤 H A W (named 0) κ u8 .twice z (slice-vals z)) $ split ! $
+            qed W ((‵ (flft κ q) ⊛ ‵ ftrue) ∷ ‵ (owns (T.the-row ∷ (rowOf B1) ∷ (rowOf B2) ∷ ShrSlice (named 0) κ u8 ∷ []) (h, (y1, (y2, (z, tt)))) (mach h ∷ [], (B1 .val y1 ∷ [], (B2 .val y2 ∷ [], (slice-vals z, tt))))) ∷ []) ∵ move ! (1 ∷ []) $ fsplit ! $ drop ! $ fsplit ! $ drop ! $ fsplit ! $ drop ! $ fsplit ! $ keep ! (0 ∷ 2 ∷ []) $ use1 W (‵ Bytess2 ⊛ ‵ Bytess2) (shr-slice-copy 𝓤 H A W (named 0) κ u8 .twice z (slice-vals z)) $ split ! $
             enter ! C Λ throughs2 (mach h ∷ B1 .val y1 ∷ B2 .val y2 ∷ only (slice-vals z) ∷ []) _ $
             alloc1 ! (λ l0. alloc1 ! (λ l1. alloc1 ! (λ l2. alloc1 ! (λ l3. alloc1 ! (λ l4. alloc1 ! (λ l5. alloc1 ! (λ l6. alloc1 ! (λ l7. alloc1 ! (λ l8. alloc0 ! $ params1 ! $ pass1 ! (init ! 14 refl (typed 𝓤 H A W h is)) $ pass1 ! (init ! 12 refl (B1 .typed M 𝓤 H A W y1 _ is1 .0)) $ pass1 ! (init ! 10 refl (B2 .typed M 𝓤 H A W y2 _ is2 .0)) $ pass1 ! (init ! 8 refl (shr-slice-lawful 𝓤 H A W (named 0) κ u8 .typed z _ isz .0)) $ pass0 ! $
             -- [the locals from the last to _0, each with its end; what the slice owns, twice; its token]
@@ -419,10 +409,10 @@ module _ (S : Sort) (B1 : Sort) (B2 : Sort) (P : Pair S) (f : Name) (F : Keyboar
             use1 W (later (some (λ (δ : GName). ‵ (MutRef (named 0) (α ∷ []) T.the-row .own (lent-at l5 δ h) (vptr l5 0 ∷ [])) ⊛ ‵ (flent (α ∷ []) (Body (mem T.the-row) l5 0 δ))))) (lends 𝓤 H A W (α ∷ []) h l5 is) $ await ! tt $ pick ! (λ δ. split ! $
             move ! (2 ∷ 22 ∷ 0 ∷ 20 ∷ []) $ join ! $ use3 W (raw (Lents2 .pre (tos2 α l5 δ))) (goess2 α l5 δ) $
             calls-at ! fm Lents2 known (tos2 α l5 δ) (and-then ! (load ! (from ! (stop !)) (look ! 4 refl)) (and-then ! (load ! (from ! (stop !)) (look ! 13 refl)) (and-then ! (load ! (from ! (stop !)) (look ! 11 refl)) (and-then ! (load ! (from ! (stop !)) (look ! 9 refl)) (no-more !))))) (λ v.
-            use1 W (later (some (λ (r : S .base .Denot). ((‵ (flft (α ∷ []) fullShare) ⊛ ‵ (flft κ q) ⊛ ‵ ftrue) ⊛ ‵ (answerOf S .own r (v ∷ []))) ⊛ raw (ensured 𝓤 H A ins2 (lents2 S B1 B2 P f F 𝓤 H A) (α ∷ [], (κ, tt)) (lent-at l5 δ h, (y1, (y2, (z, tt)))) tt r)))) (id⊢ 𝓤 _) $ await ! tt $ pick ! (λ r.
+            use1 W (later (some (λ (r : S .base .Denot). ((‵ (flft (α ∷ []) fullShare) ⊛ ‵ (flft κ q) ⊛ ‵ ftrue) ⊛ ‵ (rowOf S .own r (v ∷ []))) ⊛ raw (ensured 𝓤 H A ins2 (lents2 S B1 B2 P f F 𝓤 H A) (α ∷ [], (κ, tt)) (lent-at l5 δ h, (y1, (y2, (z, tt)))) tt r)))) (id⊢ 𝓤 _) $ await ! tt $ pick ! (λ r.
             split ! $ move ! (1 ∷ []) $ use1 W (some (λ (ws : Keyboard × (Unit {0} × (Unit {0} × (Unit {0} × Unit {0})))). ‵ (lasts ins2 (α ∷ [], (κ, tt)) (lent-at l5 δ h, (y1, (y2, (z, tt)))) ws) ⊛ raw (fact 𝓤 ((r ≡ P .answer (F h y1 y2 (now z))) × (ws .0 ≡ P .keyboard (F h y1 y2 (now z))))))) (id⊢ 𝓤 _) $ pick ! (λ ws.
             split ! $ move ! (1 ∷ []) $ heard ! ((r ≡ P .answer (F h y1 y2 (now z))) × (ws .0 ≡ P .keyboard (F h y1 y2 (now z)))) (λ e. fsplit ! $ move ! (2 ∷ []) $ split ! $ move ! (1 ∷ []) $
-            peeks ! (answerOf S) (Is (answerOf S)) (shows 𝓤 H A (answerOf S)) r (v ∷ []) (λ is′.
+            peeks ! (rowOf S) (Is (rowOf S)) (shows 𝓤 H A (rowOf S)) r (v ∷ []) (λ is′.
             -- [what the answer owns; the tokens; the last value; true; the lender's part; the locals, of the lent one its end alone; what the slice owns]
             land ! (from ! (stop !)) (init ! 9 refl (S .typed M 𝓤 H A W r v is′ .0)) $ rewrite ! 9 (λ (u : Val). ‵ (fat fullShare (S .τ) l6 0 u)) (ap only (S .tells r _ is′)) refl $
             -- the lifetime is ended, and the local is back at the record that the call left
@@ -440,5 +430,5 @@ module _ (S : Sort) (B1 : Sort) (B2 : Sort) (P : Pair S) (f : Name) (F : Keyboar
         (λ κs qs bounds a g are. via 𝓤 _ (fst∗ 𝓤 _ (emp 𝓤)) (walk-s2 W (κs .0) (qs .0) (a .0) (a .1 .0) (a .1 .1 .0) (a .1 .1 .1 .0) (are .0) (are .1 .0) (are .1 .1 .0) (are .1 .1 .1 .0) C Λ fm known))
 
     pub meetss2 : Given 𝓤 H A → (𝓣 : Tables 𝓤 H) → Triple 𝓤 (𝓣 .C f) Lents2 → Meets 𝓤 H A (bys2 .signature) (WpFn 𝓤 H (𝓣 .C) (𝓣 .Λ) throughs2) (closing 𝓤 H A bys2 values2)
-    meetss2 W 𝓣 known = walk-meets 𝓤 H A bys2 stayeds2 W (goes-none 𝓤 H A W 1 (λ _. T.the-row) yes (λ κs x g. refl), (goes-none 𝓤 H A W 1 (λ _. (plainly (B1 .base) (B1 .τ))) yes (λ κs x g. refl), (goes-none 𝓤 H A W 1 (λ _. (plainly (B2 .base) (B2 .τ))) yes (λ κs x g. refl), (goes-none-slice 𝓤 H A W 1 (0 ∷ []) tt (plain (λ _. u8)) yes, tt)))) values2
+    meetss2 W 𝓣 known = walk-meets 𝓤 H A bys2 stayeds2 W (goes-none 𝓤 H A W 1 (λ _. T.the-row) yes (λ κs x g. refl), (goes-none 𝓤 H A W 1 (λ _. rowOf B1) yes (λ κs x g. refl), (goes-none 𝓤 H A W 1 (λ _. rowOf B2) yes (λ κs x g. refl), (goes-none-slice 𝓤 H A W 1 (0 ∷ []) tt (plain (λ _. u8)) yes, tt)))) values2
         (WpFn 𝓤 H (𝓣 .C) (𝓣 .Λ) throughs2) (WpFn-mono 𝓤 H (W .laws) 𝓣 throughs2) (walkss2 W (𝓣 .C) (𝓣 .Λ) (fmOf 𝓤 H (W .laws) 𝓣) known)

@@ -70,23 +70,24 @@ pub record Pair (S : Sort) : Type 2 where
   pub joined : (r : base .Denot) → Is (S .base) (answer r) (S .val (answer r) ∷ []) → Is T.the-row (keyboard r) (mach (keyboard r) ∷ []) → Is base r (vstruct (vcons (S .val (answer r)) (vcons (mach (keyboard r)) vnil)) ∷ [])
   pub makes : (M : Type 1) (𝓤 : URA M) (H : Heap 𝓤) (A : Atoms 𝓤) → Given 𝓤 H A → Makes 𝓤 H A base (Is base)
 
+-- the types of a sort and of a pair, and the pair's MIR type
+abbrev pub rowOf : Sort → RattleType
+rowOf S = plainly (S .base) (S .τ)
+
+abbrev pub pairTy : {S : Sort} → Pair S → Ty
+pairTy {S} P = tyStruct (P .name) (tcons (S .τ) (tcons T′.mir tnil))
+
+abbrev pub pairOf : {S : Sort} → Pair S → RattleType
+pairOf P = plainly (P .base) (pairTy P)
+
 -- ---- 0 arguments beside the keyboard
 module _ (S : Sort) (P : Pair S) (f : Name) (F : Keyboard → P .base .Denot) where
-  abbrev SR0 : RattleType
-  SR0 = plainly (S .base) (S .τ)
-
-  abbrev pair0 : Ty
-  pair0 = tyStruct (P .name) (tcons (S .τ) (tcons T′.mir tnil))
-
-  abbrev PR0 : RattleType
-  PR0 = plainly (P .base) pair0
-
   abbrev pub code0 : Fn
   code0 = record {
     lifetimes = 1;
     outlives = [];
     params = 1;
-    locals = local (S .τ) valueLocal ∷ local (tyRef (named 0) mut (pointee (T.the-row .written))) valueLocal ∷ local pair0 valueLocal ∷ local T′.mir valueLocal ∷ [];
+    locals = local (S .τ) valueLocal ∷ local (tyRef (named 0) mut (pointee (T.the-row .written))) valueLocal ∷ local (pairTy P) valueLocal ∷ local T′.mir valueLocal ∷ [];
     body = seq (assign (place 3 []) (rvOpd (copy (place 1 (deref T′.mir ∷ [])))))
         (seq (call f (copy (place 3 []) ∷ []) (place 2 []))
         (seq (assign (place 1 (deref T′.mir ∷ [])) (rvOpd (copy (place 2 (field 1 ∷ [])))))
@@ -94,10 +95,10 @@ module _ (S : Sort) (P : Pair S) (f : Name) (F : Keyboard → P .base .Denot) wh
   }
 
   abbrev pub value-ended0 : Ended
-  value-ended0 = record { signature = record { lifetimes = 0; outlives = []; params = plain (λ _. T.the-row) ∷ []; result = plain (λ _. PR0) }; kept = (yes, tt) }
+  value-ended0 = record { signature = record { lifetimes = 0; outlives = []; params = plain (λ _. T.the-row) ∷ []; result = plain (λ _. pairOf P) }; kept = (yes, tt) }
 
   abbrev pub lent-ended0 : Ended
-  lent-ended0 = record { signature = record { lifetimes = 1; outlives = []; params = mutRefTo (0 ∷ []) tt (plain (λ _. T.the-row)) ∷ []; result = plain (λ _. SR0) }; kept = (yes, tt) }
+  lent-ended0 = record { signature = record { lifetimes = 1; outlives = []; params = mutRefTo (0 ∷ []) tt (plain (λ _. T.the-row)) ∷ []; result = plain (λ _. rowOf S) }; kept = (yes, tt) }
 
   abbrev stayed0 : Stays (lent-ended0 .signature .params) (lent-ended0 .kept)
   stayed0 = (stay-ref (0 ∷ []) tt (plain (λ _. T.the-row)), tt)
@@ -128,12 +129,12 @@ module _ (S : Sort) (P : Pair S) (f : Name) (F : Keyboard → P .base .Denot) wh
       abbrev Post0 : Val → SProp 𝓤
       Post0 = walkOf 𝓤 H A lent-ended0 stayed0 lent0 .post (((κ, tt), (q, tt), tt, x0, at0), tt)
 
-      exits0 : (r : P .base .Denot) → r ≡ F h → Is SR0 (P .answer r) (S .val (P .answer r) ∷ []) → ent 𝓤 (sep 𝓤 (A .obs γ (T.the-row .coded .code (P .keyboard r))) (sep 𝓤 (A .bor κ (Body (mem T.the-row) b o γ)) (A .lft κ q))) (Post0 (S .val (P .answer r)))
+      exits0 : (r : P .base .Denot) → r ≡ F h → Is (rowOf S) (P .answer r) (S .val (P .answer r) ∷ []) → ent 𝓤 (sep 𝓤 (A .obs γ (T.the-row .coded .code (P .keyboard r))) (sep 𝓤 (A .bor κ (Body (mem T.the-row) b o γ)) (A .lft κ q))) (Post0 (S .val (P .answer r)))
       exits0 r e is =
           qed W (‵ (fobs γ (T.the-row .coded .code (P .keyboard r))) ∷ ‵ (fbor κ (Body (mem T.the-row) b o γ)) ∷ ‵ (flft κ q) ∷ []) ∵
           suffices ! _ (ends-at 𝓤 H A lent-ended0 stayed0 lent0 W (((κ, tt), (q, tt), tt, x0, at0), tt) (S .val (P .answer r)) (P .answer r) (P .keyboard r, tt) (tt, tt)) $
           says ! (ap (P .answer) e, ap (P .keyboard) e) $ nothing ! $ move ! (3 ∷ 0 ∷ []) $ join ! $ frame ! $ feqI ! (List Val) (vptr b o ∷ []) (vptr b o ∷ []) refl $ fjoin3 ! $
-          nothing ! $ move ! (1 ∷ 0 ∷ []) $ fjoin ! $ owned ! SR0 (Is SR0) (S .makes M 𝓤 H A W) (P .answer r) _ is $ move ! (1 ∷ 0 ∷ []) $ done !
+          nothing ! $ move ! (1 ∷ 0 ∷ []) $ fjoin ! $ owned ! (rowOf S) (Is (rowOf S)) (S .makes M 𝓤 H A W) (P .answer r) _ is $ move ! (1 ∷ 0 ∷ []) $ done !
 
       abbrev to-f0 : ByValue0 .Ghost
       to-f0 = ((tt, tt, tt, (h, tt), (mach h ∷ [], tt)), tt)
@@ -154,11 +155,11 @@ module _ (S : Sort) (P : Pair S) (f : Name) (F : Keyboard → P .base .Denot) wh
             assigns ! (of-opd ! (load ! (from ! (hop ! (look ! 11 refl) (stop !))) (look-raw ! 0 refl))) (from ! (stop !)) (init ! 7 refl (LL.lawful T.the-type T′.the-laws 𝓤 H A W .typed h _ is .0)) $
             move ! (1 ∷ []) $ use1 W (raw (ByValue0 .pre to-f0)) goes-f0 $
             calls-at ! fm ByValue0 known to-f0 (and-then ! (load ! (from ! (stop !)) (look ! 7 refl)) (no-more !)) (λ v.
-            use1 W (later (some (λ (r : P .base .Denot). (‵ ftrue ⊛ ‵ (PR0 .own r (v ∷ []))) ⊛ raw (ensured 𝓤 H A value-ended0 by-value0 tt (h, tt) tt r)))) (id⊢ 𝓤 _) $ await ! tt $ pick ! (λ r.
+            use1 W (later (some (λ (r : P .base .Denot). (‵ ftrue ⊛ ‵ (pairOf P .own r (v ∷ []))) ⊛ raw (ensured 𝓤 H A value-ended0 by-value0 tt (h, tt) tt r)))) (id⊢ 𝓤 _) $ await ! tt $ pick ! (λ r.
             split ! $ move ! (1 ∷ []) $ use1 W (raw (fact 𝓤 (r ≡ F h))) (said-of0 h r) $ heard ! (r ≡ F h) (λ e. split ! $ drop ! $
-            peeks ! PR0 (Is PR0) (shows 𝓤 H A PR0) r (v ∷ []) (λ is′.
+            peeks ! (pairOf P) (Is (pairOf P)) (shows 𝓤 H A (pairOf P)) r (v ∷ []) (λ is′.
             land ! (from ! (stop !)) (init ! 9 refl (P .typed M 𝓤 H A W r v is′ .0)) $
-            rewrite ! 9 (λ (u : Val). ‵ (fat fullShare pair0 l2 0 u)) (ap only (P .tells r _ is′)) refl $
+            rewrite ! 9 (λ (u : Val). ‵ (fat fullShare (pairTy P) l2 0 u)) (ap only (P .tells r _ is′)) refl $
             -- [what the answer owns; the record's cell; the open borrow; obs; auth; true; the arguments'; the locals]
             assigns ! (of-opd ! (load ! (from ! (fld ! refl (stop !))) (look-in ! 9 (sub ! 1 refl (whole !))))) (from ! (hop ! (look ! 11 refl) (stop !))) (store-raw ! 1 refl (LL.lawful T.the-type T′.the-laws 𝓤 H A W .typed (P .keyboard r) _ (P .parts r _ is′ .1) .0)) $
             assigns ! (of-opd ! (load ! (from ! (fld ! refl (stop !))) (look-in ! 9 (sub ! 0 refl (whole !))))) (from ! (stop !)) (init ! 13 refl (S .typed M 𝓤 H A W (P .answer r) _ (P .parts r _ is′ .0) .0)) $
@@ -178,21 +179,12 @@ module _ (S : Sort) (P : Pair S) (f : Name) (F : Keyboard → P .base .Denot) wh
 
 -- ---- 1 argument beside the keyboard
 module _ (S : Sort) (B1 : Sort) (P : Pair S) (f : Name) (F : Keyboard → B1 .base .Denot → P .base .Denot) where
-  abbrev SR1 : RattleType
-  SR1 = plainly (S .base) (S .τ)
-
-  abbrev pair1 : Ty
-  pair1 = tyStruct (P .name) (tcons (S .τ) (tcons T′.mir tnil))
-
-  abbrev PR1 : RattleType
-  PR1 = plainly (P .base) pair1
-
   abbrev pub code1 : Fn
   code1 = record {
     lifetimes = 1;
     outlives = [];
     params = 2;
-    locals = local (S .τ) valueLocal ∷ local (tyRef (named 0) mut (pointee (T.the-row .written))) valueLocal ∷ local (B1 .τ) valueLocal ∷ local pair1 valueLocal ∷ local T′.mir valueLocal ∷ [];
+    locals = local (S .τ) valueLocal ∷ local (tyRef (named 0) mut (pointee (T.the-row .written))) valueLocal ∷ local (B1 .τ) valueLocal ∷ local (pairTy P) valueLocal ∷ local T′.mir valueLocal ∷ [];
     body = seq (assign (place 4 []) (rvOpd (copy (place 1 (deref T′.mir ∷ [])))))
         (seq (call f (copy (place 4 []) ∷ copy (place 2 []) ∷ []) (place 3 []))
         (seq (assign (place 1 (deref T′.mir ∷ [])) (rvOpd (copy (place 3 (field 1 ∷ [])))))
@@ -200,13 +192,13 @@ module _ (S : Sort) (B1 : Sort) (P : Pair S) (f : Name) (F : Keyboard → B1 .ba
   }
 
   abbrev pub value-ended1 : Ended
-  value-ended1 = record { signature = record { lifetimes = 0; outlives = []; params = plain (λ _. T.the-row) ∷ plain (λ _. (plainly (B1 .base) (B1 .τ))) ∷ []; result = plain (λ _. PR1) }; kept = (yes, (yes, tt)) }
+  value-ended1 = record { signature = record { lifetimes = 0; outlives = []; params = plain (λ _. T.the-row) ∷ plain (λ _. rowOf B1) ∷ []; result = plain (λ _. pairOf P) }; kept = (yes, (yes, tt)) }
 
   abbrev pub lent-ended1 : Ended
-  lent-ended1 = record { signature = record { lifetimes = 1; outlives = []; params = mutRefTo (0 ∷ []) tt (plain (λ _. T.the-row)) ∷ plain (λ _. (plainly (B1 .base) (B1 .τ))) ∷ []; result = plain (λ _. SR1) }; kept = (yes, (yes, tt)) }
+  lent-ended1 = record { signature = record { lifetimes = 1; outlives = []; params = mutRefTo (0 ∷ []) tt (plain (λ _. T.the-row)) ∷ plain (λ _. rowOf B1) ∷ []; result = plain (λ _. rowOf S) }; kept = (yes, (yes, tt)) }
 
   abbrev stayed1 : Stays (lent-ended1 .signature .params) (lent-ended1 .kept)
-  stayed1 = (stay-ref (0 ∷ []) tt (plain (λ _. T.the-row)), (stay-none (λ _. (plainly (B1 .base) (B1 .τ))) yes, tt))
+  stayed1 = (stay-ref (0 ∷ []) tt (plain (λ _. T.the-row)), (stay-none (λ _. rowOf B1) yes, tt))
 
   module _ {M : Type 1} (𝓤 : URA M) (H : Heap 𝓤) (A : Atoms 𝓤) where
     abbrev pub by-value1 : Clauses 𝓤 value-ended1
@@ -221,7 +213,7 @@ module _ (S : Sort) (B1 : Sort) (P : Pair S) (f : Name) (F : Keyboard → B1 .ba
     said-of1 : (h : Keyboard) (y1 : B1 .base .Denot) (r : P .base .Denot) → ent 𝓤 (ensured 𝓤 H A value-ended1 by-value1 tt (h, (y1, tt)) tt r) (fact 𝓤 (r ≡ F h y1))
     said-of1 h y1 r = exE 𝓤 _ (λ ws. snd∗ 𝓤 (sem 𝓤 H A (lasts value-ended1 tt (h, (y1, tt)) ws)) (fact 𝓤 (r ≡ F h y1)))
 
-    module _ (W : Given 𝓤 H A) (κ : Lft) (q : Share) (b o : ℕ) (γ : GName) (h : Keyboard) (y1 : B1 .base .Denot) (is1 : Is (plainly (B1 .base) (B1 .τ)) y1 (B1 .val y1 ∷ [])) where
+    module _ (W : Given 𝓤 H A) (κ : Lft) (q : Share) (b o : ℕ) (γ : GName) (h : Keyboard) (y1 : B1 .base .Denot) (is1 : Is (rowOf B1) y1 (B1 .val y1 ∷ [])) where
       abbrev Arg1 : Type 0
       Arg1 = RefT Keyboard × (B1 .base .Denot × Unit {0})
 
@@ -234,23 +226,23 @@ module _ (S : Sort) (B1 : Sort) (P : Pair S) (f : Name) (F : Keyboard → B1 .ba
       abbrev Post1 : Val → SProp 𝓤
       Post1 = walkOf 𝓤 H A lent-ended1 stayed1 lent1 .post (((κ, tt), (q, tt), tt, x1, at1), tt)
 
-      exits1 : (r : P .base .Denot) → r ≡ F h y1 → Is SR1 (P .answer r) (S .val (P .answer r) ∷ []) → ent 𝓤 (sep 𝓤 (A .obs γ (T.the-row .coded .code (P .keyboard r))) (sep 𝓤 (A .bor κ (Body (mem T.the-row) b o γ)) (A .lft κ q))) (Post1 (S .val (P .answer r)))
+      exits1 : (r : P .base .Denot) → r ≡ F h y1 → Is (rowOf S) (P .answer r) (S .val (P .answer r) ∷ []) → ent 𝓤 (sep 𝓤 (A .obs γ (T.the-row .coded .code (P .keyboard r))) (sep 𝓤 (A .bor κ (Body (mem T.the-row) b o γ)) (A .lft κ q))) (Post1 (S .val (P .answer r)))
       exits1 r e is =
           qed W (‵ (fobs γ (T.the-row .coded .code (P .keyboard r))) ∷ ‵ (fbor κ (Body (mem T.the-row) b o γ)) ∷ ‵ (flft κ q) ∷ []) ∵
           suffices ! _ (ends-at 𝓤 H A lent-ended1 stayed1 lent1 W (((κ, tt), (q, tt), tt, x1, at1), tt) (S .val (P .answer r)) (P .answer r) (P .keyboard r, (tt, tt)) (tt, (tt, tt))) $
           says ! (ap (P .answer) e, ap (P .keyboard) e) $ nothing ! $ move ! (3 ∷ 0 ∷ []) $ join ! $ frame ! $ feqI ! (List Val) (vptr b o ∷ []) (vptr b o ∷ []) refl $ fjoin3 ! $
-          nothing ! $ owned ! (plainly (B1 .base) (B1 .τ)) (Is (plainly (B1 .base) (B1 .τ))) (B1 .makes M 𝓤 H A W) y1 _ is1 $ fjoin ! $ move ! (1 ∷ 0 ∷ []) $ fjoin ! $ owned ! SR1 (Is SR1) (S .makes M 𝓤 H A W) (P .answer r) _ is $ move ! (1 ∷ 0 ∷ []) $ done !
+          nothing ! $ owned ! (rowOf B1) (Is (rowOf B1)) (B1 .makes M 𝓤 H A W) y1 _ is1 $ fjoin ! $ move ! (1 ∷ 0 ∷ []) $ fjoin ! $ owned ! (rowOf S) (Is (rowOf S)) (S .makes M 𝓤 H A W) (P .answer r) _ is $ move ! (1 ∷ 0 ∷ []) $ done !
 
       abbrev to-f1 : ByValue1 .Ghost
       to-f1 = ((tt, tt, tt, (h, (y1, tt)), (mach h ∷ [], (B1 .val y1 ∷ [], tt))), tt)
 
       goes-f1 : ent 𝓤 (sem 𝓤 H A (T.the-row .own h (mach h ∷ []))) (ByValue1 .pre to-f1)
-      goes-f1 = qed W (‵ (T.the-row .own h (mach h ∷ [])) ∷ []) ∵ nothing ! $ owned ! (plainly (B1 .base) (B1 .τ)) (Is (plainly (B1 .base) (B1 .τ))) (B1 .makes M 𝓤 H A W) y1 _ is1 $ fjoin ! $ move ! (1 ∷ 0 ∷ []) $ fjoin ! $ nothing ! $ join ! $ frame ! $ done !
+      goes-f1 = qed W (‵ (T.the-row .own h (mach h ∷ [])) ∷ []) ∵ nothing ! $ owned ! (rowOf B1) (Is (rowOf B1)) (B1 .makes M 𝓤 H A W) y1 _ is1 $ fjoin ! $ move ! (1 ∷ 0 ∷ []) $ fjoin ! $ nothing ! $ join ! $ frame ! $ done !
 
       module _ (C : Calls 𝓤 H) (Λ : Loops 𝓤 H) (fm : FmC 𝓤 H (W .laws) C) (known : Triple 𝓤 (C f) ByValue1) where
         walk1 : ent 𝓤 (onEntry 𝓤 H A (lent-ended1 .signature) (κ, tt) (q, tt) x1 at1) (WpFn 𝓤 H C Λ code1 (vptr b o ∷ B1 .val y1 ∷ []) Post1)
         walk1 =
-            qed W ((‵ (flft κ q) ⊛ ‵ ftrue) ∷ ‵ (owns (MutRef (named 0) κ T.the-row ∷ (plainly (B1 .base) (B1 .τ)) ∷ []) x1 at1) ∷ []) ∵ enter ! C Λ code1 (vptr b o ∷ B1 .val y1 ∷ []) _ $
+            qed W ((‵ (flft κ q) ⊛ ‵ ftrue) ∷ ‵ (owns (MutRef (named 0) κ T.the-row ∷ (rowOf B1) ∷ []) x1 at1) ∷ []) ∵ enter ! C Λ code1 (vptr b o ∷ B1 .val y1 ∷ []) _ $
             alloc1 ! (λ l0. alloc1 ! (λ l1. alloc1 ! (λ l2. alloc1 ! (λ l3. alloc1 ! (λ l4. alloc0 ! $ params1 ! $ pass1 ! (init ! 6 refl (tt, tt)) $ pass1 ! (init ! 4 refl (B1 .typed M 𝓤 H A W y1 _ is1 .0)) $ pass0 ! $
             -- the borrow is opened
             move ! (11 ∷ []) $ fsplit ! $ fsplit3 ! $ drop ! $ move ! (13 ∷ []) $ split ! $ move ! (2 ∷ 3 ∷ 0 ∷ []) $
@@ -260,11 +252,11 @@ module _ (S : Sort) (B1 : Sort) (P : Pair S) (f : Name) (F : Keyboard → B1 .ba
             assigns ! (of-opd ! (load ! (from ! (hop ! (look ! 13 refl) (stop !))) (look-raw ! 0 refl))) (from ! (stop !)) (init ! 7 refl (LL.lawful T.the-type T′.the-laws 𝓤 H A W .typed h _ is .0)) $
             move ! (1 ∷ []) $ use1 W (raw (ByValue1 .pre to-f1)) goes-f1 $
             calls-at ! fm ByValue1 known to-f1 (and-then ! (load ! (from ! (stop !)) (look ! 7 refl)) (and-then ! (load ! (from ! (stop !)) (look ! 11 refl)) (no-more !))) (λ v.
-            use1 W (later (some (λ (r : P .base .Denot). (‵ ftrue ⊛ ‵ (PR1 .own r (v ∷ []))) ⊛ raw (ensured 𝓤 H A value-ended1 by-value1 tt (h, (y1, tt)) tt r)))) (id⊢ 𝓤 _) $ await ! tt $ pick ! (λ r.
+            use1 W (later (some (λ (r : P .base .Denot). (‵ ftrue ⊛ ‵ (pairOf P .own r (v ∷ []))) ⊛ raw (ensured 𝓤 H A value-ended1 by-value1 tt (h, (y1, tt)) tt r)))) (id⊢ 𝓤 _) $ await ! tt $ pick ! (λ r.
             split ! $ move ! (1 ∷ []) $ use1 W (raw (fact 𝓤 (r ≡ F h y1))) (said-of1 h y1 r) $ heard ! (r ≡ F h y1) (λ e. split ! $ drop ! $
-            peeks ! PR1 (Is PR1) (shows 𝓤 H A PR1) r (v ∷ []) (λ is′.
+            peeks ! (pairOf P) (Is (pairOf P)) (shows 𝓤 H A (pairOf P)) r (v ∷ []) (λ is′.
             land ! (from ! (stop !)) (init ! 9 refl (P .typed M 𝓤 H A W r v is′ .0)) $
-            rewrite ! 9 (λ (u : Val). ‵ (fat fullShare pair1 l3 0 u)) (ap only (P .tells r _ is′)) refl $
+            rewrite ! 9 (λ (u : Val). ‵ (fat fullShare (pairTy P) l3 0 u)) (ap only (P .tells r _ is′)) refl $
             -- [what the answer owns; the record's cell; the open borrow; obs; auth; true; the arguments'; the locals]
             assigns ! (of-opd ! (load ! (from ! (fld ! refl (stop !))) (look-in ! 9 (sub ! 1 refl (whole !))))) (from ! (hop ! (look ! 13 refl) (stop !))) (store-raw ! 1 refl (LL.lawful T.the-type T′.the-laws 𝓤 H A W .typed (P .keyboard r) _ (P .parts r _ is′ .1) .0)) $
             assigns ! (of-opd ! (load ! (from ! (fld ! refl (stop !))) (look-in ! 9 (sub ! 0 refl (whole !))))) (from ! (stop !)) (init ! 15 refl (S .typed M 𝓤 H A W (P .answer r) _ (P .parts r _ is′ .0) .0)) $
@@ -279,26 +271,17 @@ module _ (S : Sort) (B1 : Sort) (P : Pair S) (f : Name) (F : Keyboard → B1 .ba
         (λ κs qs bounds a g are. via 𝓤 _ (fst∗ 𝓤 _ (emp 𝓤)) (walk1 W (κs .0) (qs .0) (a .0 .ptr .0) (a .0 .ptr .1) (a .0 .name) (a .0 .now) (a .1 .0) (are .1 .0) C Λ fm known))
 
     pub meets1 : Given 𝓤 H A → (𝓣 : Tables 𝓤 H) → Triple 𝓤 (𝓣 .C f) ByValue1 → Meets 𝓤 H A (lent-ended1 .signature) (WpFn 𝓤 H (𝓣 .C) (𝓣 .Λ) code1) (closing 𝓤 H A lent-ended1 lent1)
-    meets1 W 𝓣 known = walk-meets 𝓤 H A lent-ended1 stayed1 W (goes-ref 𝓤 H A W 1 0 tt (plain (λ _. T.the-row)), (goes-none 𝓤 H A W 1 (λ _. (plainly (B1 .base) (B1 .τ))) yes (λ κs x f. refl), tt)) lent1
+    meets1 W 𝓣 known = walk-meets 𝓤 H A lent-ended1 stayed1 W (goes-ref 𝓤 H A W 1 0 tt (plain (λ _. T.the-row)), (goes-none 𝓤 H A W 1 (λ _. rowOf B1) yes (λ κs x f. refl), tt)) lent1
         (WpFn 𝓤 H (𝓣 .C) (𝓣 .Λ) code1) (WpFn-mono 𝓤 H (W .laws) 𝓣 code1) (walks1 W (𝓣 .C) (𝓣 .Λ) (fmOf 𝓤 H (W .laws) 𝓣) known)
 
 -- ---- 2 arguments beside the keyboard
 module _ (S : Sort) (B1 : Sort) (B2 : Sort) (P : Pair S) (f : Name) (F : Keyboard → B1 .base .Denot → B2 .base .Denot → P .base .Denot) where
-  abbrev SR2 : RattleType
-  SR2 = plainly (S .base) (S .τ)
-
-  abbrev pair2 : Ty
-  pair2 = tyStruct (P .name) (tcons (S .τ) (tcons T′.mir tnil))
-
-  abbrev PR2 : RattleType
-  PR2 = plainly (P .base) pair2
-
   abbrev pub code2 : Fn
   code2 = record {
     lifetimes = 1;
     outlives = [];
     params = 3;
-    locals = local (S .τ) valueLocal ∷ local (tyRef (named 0) mut (pointee (T.the-row .written))) valueLocal ∷ local (B1 .τ) valueLocal ∷ local (B2 .τ) valueLocal ∷ local pair2 valueLocal ∷ local T′.mir valueLocal ∷ [];
+    locals = local (S .τ) valueLocal ∷ local (tyRef (named 0) mut (pointee (T.the-row .written))) valueLocal ∷ local (B1 .τ) valueLocal ∷ local (B2 .τ) valueLocal ∷ local (pairTy P) valueLocal ∷ local T′.mir valueLocal ∷ [];
     body = seq (assign (place 5 []) (rvOpd (copy (place 1 (deref T′.mir ∷ [])))))
         (seq (call f (copy (place 5 []) ∷ copy (place 2 []) ∷ copy (place 3 []) ∷ []) (place 4 []))
         (seq (assign (place 1 (deref T′.mir ∷ [])) (rvOpd (copy (place 4 (field 1 ∷ [])))))
@@ -306,13 +289,13 @@ module _ (S : Sort) (B1 : Sort) (B2 : Sort) (P : Pair S) (f : Name) (F : Keyboar
   }
 
   abbrev pub value-ended2 : Ended
-  value-ended2 = record { signature = record { lifetimes = 0; outlives = []; params = plain (λ _. T.the-row) ∷ plain (λ _. (plainly (B1 .base) (B1 .τ))) ∷ plain (λ _. (plainly (B2 .base) (B2 .τ))) ∷ []; result = plain (λ _. PR2) }; kept = (yes, (yes, (yes, tt))) }
+  value-ended2 = record { signature = record { lifetimes = 0; outlives = []; params = plain (λ _. T.the-row) ∷ plain (λ _. rowOf B1) ∷ plain (λ _. rowOf B2) ∷ []; result = plain (λ _. pairOf P) }; kept = (yes, (yes, (yes, tt))) }
 
   abbrev pub lent-ended2 : Ended
-  lent-ended2 = record { signature = record { lifetimes = 1; outlives = []; params = mutRefTo (0 ∷ []) tt (plain (λ _. T.the-row)) ∷ plain (λ _. (plainly (B1 .base) (B1 .τ))) ∷ plain (λ _. (plainly (B2 .base) (B2 .τ))) ∷ []; result = plain (λ _. SR2) }; kept = (yes, (yes, (yes, tt))) }
+  lent-ended2 = record { signature = record { lifetimes = 1; outlives = []; params = mutRefTo (0 ∷ []) tt (plain (λ _. T.the-row)) ∷ plain (λ _. rowOf B1) ∷ plain (λ _. rowOf B2) ∷ []; result = plain (λ _. rowOf S) }; kept = (yes, (yes, (yes, tt))) }
 
   abbrev stayed2 : Stays (lent-ended2 .signature .params) (lent-ended2 .kept)
-  stayed2 = (stay-ref (0 ∷ []) tt (plain (λ _. T.the-row)), (stay-none (λ _. (plainly (B1 .base) (B1 .τ))) yes, (stay-none (λ _. (plainly (B2 .base) (B2 .τ))) yes, tt)))
+  stayed2 = (stay-ref (0 ∷ []) tt (plain (λ _. T.the-row)), (stay-none (λ _. rowOf B1) yes, (stay-none (λ _. rowOf B2) yes, tt)))
 
   module _ {M : Type 1} (𝓤 : URA M) (H : Heap 𝓤) (A : Atoms 𝓤) where
     abbrev pub by-value2 : Clauses 𝓤 value-ended2
@@ -327,7 +310,7 @@ module _ (S : Sort) (B1 : Sort) (B2 : Sort) (P : Pair S) (f : Name) (F : Keyboar
     said-of2 : (h : Keyboard) (y1 : B1 .base .Denot) (y2 : B2 .base .Denot) (r : P .base .Denot) → ent 𝓤 (ensured 𝓤 H A value-ended2 by-value2 tt (h, (y1, (y2, tt))) tt r) (fact 𝓤 (r ≡ F h y1 y2))
     said-of2 h y1 y2 r = exE 𝓤 _ (λ ws. snd∗ 𝓤 (sem 𝓤 H A (lasts value-ended2 tt (h, (y1, (y2, tt))) ws)) (fact 𝓤 (r ≡ F h y1 y2)))
 
-    module _ (W : Given 𝓤 H A) (κ : Lft) (q : Share) (b o : ℕ) (γ : GName) (h : Keyboard) (y1 : B1 .base .Denot) (y2 : B2 .base .Denot) (is1 : Is (plainly (B1 .base) (B1 .τ)) y1 (B1 .val y1 ∷ [])) (is2 : Is (plainly (B2 .base) (B2 .τ)) y2 (B2 .val y2 ∷ [])) where
+    module _ (W : Given 𝓤 H A) (κ : Lft) (q : Share) (b o : ℕ) (γ : GName) (h : Keyboard) (y1 : B1 .base .Denot) (y2 : B2 .base .Denot) (is1 : Is (rowOf B1) y1 (B1 .val y1 ∷ [])) (is2 : Is (rowOf B2) y2 (B2 .val y2 ∷ [])) where
       abbrev Arg2 : Type 0
       Arg2 = RefT Keyboard × (B1 .base .Denot × (B2 .base .Denot × Unit {0}))
 
@@ -340,23 +323,23 @@ module _ (S : Sort) (B1 : Sort) (B2 : Sort) (P : Pair S) (f : Name) (F : Keyboar
       abbrev Post2 : Val → SProp 𝓤
       Post2 = walkOf 𝓤 H A lent-ended2 stayed2 lent2 .post (((κ, tt), (q, tt), tt, x2, at2), tt)
 
-      exits2 : (r : P .base .Denot) → r ≡ F h y1 y2 → Is SR2 (P .answer r) (S .val (P .answer r) ∷ []) → ent 𝓤 (sep 𝓤 (A .obs γ (T.the-row .coded .code (P .keyboard r))) (sep 𝓤 (A .bor κ (Body (mem T.the-row) b o γ)) (A .lft κ q))) (Post2 (S .val (P .answer r)))
+      exits2 : (r : P .base .Denot) → r ≡ F h y1 y2 → Is (rowOf S) (P .answer r) (S .val (P .answer r) ∷ []) → ent 𝓤 (sep 𝓤 (A .obs γ (T.the-row .coded .code (P .keyboard r))) (sep 𝓤 (A .bor κ (Body (mem T.the-row) b o γ)) (A .lft κ q))) (Post2 (S .val (P .answer r)))
       exits2 r e is =
           qed W (‵ (fobs γ (T.the-row .coded .code (P .keyboard r))) ∷ ‵ (fbor κ (Body (mem T.the-row) b o γ)) ∷ ‵ (flft κ q) ∷ []) ∵
           suffices ! _ (ends-at 𝓤 H A lent-ended2 stayed2 lent2 W (((κ, tt), (q, tt), tt, x2, at2), tt) (S .val (P .answer r)) (P .answer r) (P .keyboard r, (tt, (tt, tt))) (tt, (tt, (tt, tt)))) $
           says ! (ap (P .answer) e, ap (P .keyboard) e) $ nothing ! $ move ! (3 ∷ 0 ∷ []) $ join ! $ frame ! $ feqI ! (List Val) (vptr b o ∷ []) (vptr b o ∷ []) refl $ fjoin3 ! $
-          nothing ! $ owned ! (plainly (B2 .base) (B2 .τ)) (Is (plainly (B2 .base) (B2 .τ))) (B2 .makes M 𝓤 H A W) y2 _ is2 $ fjoin ! $ owned ! (plainly (B1 .base) (B1 .τ)) (Is (plainly (B1 .base) (B1 .τ))) (B1 .makes M 𝓤 H A W) y1 _ is1 $ fjoin ! $ move ! (1 ∷ 0 ∷ []) $ fjoin ! $ owned ! SR2 (Is SR2) (S .makes M 𝓤 H A W) (P .answer r) _ is $ move ! (1 ∷ 0 ∷ []) $ done !
+          nothing ! $ owned ! (rowOf B2) (Is (rowOf B2)) (B2 .makes M 𝓤 H A W) y2 _ is2 $ fjoin ! $ owned ! (rowOf B1) (Is (rowOf B1)) (B1 .makes M 𝓤 H A W) y1 _ is1 $ fjoin ! $ move ! (1 ∷ 0 ∷ []) $ fjoin ! $ owned ! (rowOf S) (Is (rowOf S)) (S .makes M 𝓤 H A W) (P .answer r) _ is $ move ! (1 ∷ 0 ∷ []) $ done !
 
       abbrev to-f2 : ByValue2 .Ghost
       to-f2 = ((tt, tt, tt, (h, (y1, (y2, tt))), (mach h ∷ [], (B1 .val y1 ∷ [], (B2 .val y2 ∷ [], tt)))), tt)
 
       goes-f2 : ent 𝓤 (sem 𝓤 H A (T.the-row .own h (mach h ∷ []))) (ByValue2 .pre to-f2)
-      goes-f2 = qed W (‵ (T.the-row .own h (mach h ∷ [])) ∷ []) ∵ nothing ! $ owned ! (plainly (B2 .base) (B2 .τ)) (Is (plainly (B2 .base) (B2 .τ))) (B2 .makes M 𝓤 H A W) y2 _ is2 $ fjoin ! $ owned ! (plainly (B1 .base) (B1 .τ)) (Is (plainly (B1 .base) (B1 .τ))) (B1 .makes M 𝓤 H A W) y1 _ is1 $ fjoin ! $ move ! (1 ∷ 0 ∷ []) $ fjoin ! $ nothing ! $ join ! $ frame ! $ done !
+      goes-f2 = qed W (‵ (T.the-row .own h (mach h ∷ [])) ∷ []) ∵ nothing ! $ owned ! (rowOf B2) (Is (rowOf B2)) (B2 .makes M 𝓤 H A W) y2 _ is2 $ fjoin ! $ owned ! (rowOf B1) (Is (rowOf B1)) (B1 .makes M 𝓤 H A W) y1 _ is1 $ fjoin ! $ move ! (1 ∷ 0 ∷ []) $ fjoin ! $ nothing ! $ join ! $ frame ! $ done !
 
       module _ (C : Calls 𝓤 H) (Λ : Loops 𝓤 H) (fm : FmC 𝓤 H (W .laws) C) (known : Triple 𝓤 (C f) ByValue2) where
         walk2 : ent 𝓤 (onEntry 𝓤 H A (lent-ended2 .signature) (κ, tt) (q, tt) x2 at2) (WpFn 𝓤 H C Λ code2 (vptr b o ∷ B1 .val y1 ∷ B2 .val y2 ∷ []) Post2)
         walk2 =
-            qed W ((‵ (flft κ q) ⊛ ‵ ftrue) ∷ ‵ (owns (MutRef (named 0) κ T.the-row ∷ (plainly (B1 .base) (B1 .τ)) ∷ (plainly (B2 .base) (B2 .τ)) ∷ []) x2 at2) ∷ []) ∵ enter ! C Λ code2 (vptr b o ∷ B1 .val y1 ∷ B2 .val y2 ∷ []) _ $
+            qed W ((‵ (flft κ q) ⊛ ‵ ftrue) ∷ ‵ (owns (MutRef (named 0) κ T.the-row ∷ (rowOf B1) ∷ (rowOf B2) ∷ []) x2 at2) ∷ []) ∵ enter ! C Λ code2 (vptr b o ∷ B1 .val y1 ∷ B2 .val y2 ∷ []) _ $
             alloc1 ! (λ l0. alloc1 ! (λ l1. alloc1 ! (λ l2. alloc1 ! (λ l3. alloc1 ! (λ l4. alloc1 ! (λ l5. alloc0 ! $ params1 ! $ pass1 ! (init ! 8 refl (tt, tt)) $ pass1 ! (init ! 6 refl (B1 .typed M 𝓤 H A W y1 _ is1 .0)) $ pass1 ! (init ! 4 refl (B2 .typed M 𝓤 H A W y2 _ is2 .0)) $ pass0 ! $
             -- the borrow is opened
             move ! (13 ∷ []) $ fsplit ! $ fsplit3 ! $ drop ! $ move ! (15 ∷ []) $ split ! $ move ! (2 ∷ 3 ∷ 0 ∷ []) $
@@ -366,11 +349,11 @@ module _ (S : Sort) (B1 : Sort) (B2 : Sort) (P : Pair S) (f : Name) (F : Keyboar
             assigns ! (of-opd ! (load ! (from ! (hop ! (look ! 15 refl) (stop !))) (look-raw ! 0 refl))) (from ! (stop !)) (init ! 7 refl (LL.lawful T.the-type T′.the-laws 𝓤 H A W .typed h _ is .0)) $
             move ! (1 ∷ []) $ use1 W (raw (ByValue2 .pre to-f2)) goes-f2 $
             calls-at ! fm ByValue2 known to-f2 (and-then ! (load ! (from ! (stop !)) (look ! 7 refl)) (and-then ! (load ! (from ! (stop !)) (look ! 13 refl)) (and-then ! (load ! (from ! (stop !)) (look ! 11 refl)) (no-more !)))) (λ v.
-            use1 W (later (some (λ (r : P .base .Denot). (‵ ftrue ⊛ ‵ (PR2 .own r (v ∷ []))) ⊛ raw (ensured 𝓤 H A value-ended2 by-value2 tt (h, (y1, (y2, tt))) tt r)))) (id⊢ 𝓤 _) $ await ! tt $ pick ! (λ r.
+            use1 W (later (some (λ (r : P .base .Denot). (‵ ftrue ⊛ ‵ (pairOf P .own r (v ∷ []))) ⊛ raw (ensured 𝓤 H A value-ended2 by-value2 tt (h, (y1, (y2, tt))) tt r)))) (id⊢ 𝓤 _) $ await ! tt $ pick ! (λ r.
             split ! $ move ! (1 ∷ []) $ use1 W (raw (fact 𝓤 (r ≡ F h y1 y2))) (said-of2 h y1 y2 r) $ heard ! (r ≡ F h y1 y2) (λ e. split ! $ drop ! $
-            peeks ! PR2 (Is PR2) (shows 𝓤 H A PR2) r (v ∷ []) (λ is′.
+            peeks ! (pairOf P) (Is (pairOf P)) (shows 𝓤 H A (pairOf P)) r (v ∷ []) (λ is′.
             land ! (from ! (stop !)) (init ! 9 refl (P .typed M 𝓤 H A W r v is′ .0)) $
-            rewrite ! 9 (λ (u : Val). ‵ (fat fullShare pair2 l4 0 u)) (ap only (P .tells r _ is′)) refl $
+            rewrite ! 9 (λ (u : Val). ‵ (fat fullShare (pairTy P) l4 0 u)) (ap only (P .tells r _ is′)) refl $
             -- [what the answer owns; the record's cell; the open borrow; obs; auth; true; the arguments'; the locals]
             assigns ! (of-opd ! (load ! (from ! (fld ! refl (stop !))) (look-in ! 9 (sub ! 1 refl (whole !))))) (from ! (hop ! (look ! 15 refl) (stop !))) (store-raw ! 1 refl (LL.lawful T.the-type T′.the-laws 𝓤 H A W .typed (P .keyboard r) _ (P .parts r _ is′ .1) .0)) $
             assigns ! (of-opd ! (load ! (from ! (fld ! refl (stop !))) (look-in ! 9 (sub ! 0 refl (whole !))))) (from ! (stop !)) (init ! 17 refl (S .typed M 𝓤 H A W (P .answer r) _ (P .parts r _ is′ .0) .0)) $
@@ -385,26 +368,17 @@ module _ (S : Sort) (B1 : Sort) (B2 : Sort) (P : Pair S) (f : Name) (F : Keyboar
         (λ κs qs bounds a g are. via 𝓤 _ (fst∗ 𝓤 _ (emp 𝓤)) (walk2 W (κs .0) (qs .0) (a .0 .ptr .0) (a .0 .ptr .1) (a .0 .name) (a .0 .now) (a .1 .0) (a .1 .1 .0) (are .1 .0) (are .1 .1 .0) C Λ fm known))
 
     pub meets2 : Given 𝓤 H A → (𝓣 : Tables 𝓤 H) → Triple 𝓤 (𝓣 .C f) ByValue2 → Meets 𝓤 H A (lent-ended2 .signature) (WpFn 𝓤 H (𝓣 .C) (𝓣 .Λ) code2) (closing 𝓤 H A lent-ended2 lent2)
-    meets2 W 𝓣 known = walk-meets 𝓤 H A lent-ended2 stayed2 W (goes-ref 𝓤 H A W 1 0 tt (plain (λ _. T.the-row)), (goes-none 𝓤 H A W 1 (λ _. (plainly (B1 .base) (B1 .τ))) yes (λ κs x f. refl), (goes-none 𝓤 H A W 1 (λ _. (plainly (B2 .base) (B2 .τ))) yes (λ κs x f. refl), tt))) lent2
+    meets2 W 𝓣 known = walk-meets 𝓤 H A lent-ended2 stayed2 W (goes-ref 𝓤 H A W 1 0 tt (plain (λ _. T.the-row)), (goes-none 𝓤 H A W 1 (λ _. rowOf B1) yes (λ κs x f. refl), (goes-none 𝓤 H A W 1 (λ _. rowOf B2) yes (λ κs x f. refl), tt))) lent2
         (WpFn 𝓤 H (𝓣 .C) (𝓣 .Λ) code2) (WpFn-mono 𝓤 H (W .laws) 𝓣 code2) (walks2 W (𝓣 .C) (𝓣 .Λ) (fmOf 𝓤 H (W .laws) 𝓣) known)
 
 -- ---- 2 arguments beside the keyboard, and a lent slice of bytes after them
 module _ (S : Sort) (B1 : Sort) (B2 : Sort) (P : Pair S) (f : Name) (F : Keyboard → B1 .base .Denot → B2 .base .Denot → List ℕ → P .base .Denot) where
-  abbrev SRs2 : RattleType
-  SRs2 = plainly (S .base) (S .τ)
-
-  abbrev pairs2 : Ty
-  pairs2 = tyStruct (P .name) (tcons (S .τ) (tcons T′.mir tnil))
-
-  abbrev PRs2 : RattleType
-  PRs2 = plainly (P .base) pairs2
-
   abbrev pub codes2 : Fn
   codes2 = record {
     lifetimes = 2;
     outlives = [];
     params = 4;
-    locals = local (S .τ) valueLocal ∷ local (tyRef (named 0) mut (pointee (T.the-row .written))) valueLocal ∷ local (B1 .τ) valueLocal ∷ local (B2 .τ) valueLocal ∷ local (tyStruct sliceName (tcons (tyRef (named 1) imm (tyInt w8)) (tcons (tyInt w64) tnil))) valueLocal ∷ local pairs2 valueLocal ∷ local T′.mir valueLocal ∷ [];
+    locals = local (S .τ) valueLocal ∷ local (tyRef (named 0) mut (pointee (T.the-row .written))) valueLocal ∷ local (B1 .τ) valueLocal ∷ local (B2 .τ) valueLocal ∷ local (tyStruct sliceName (tcons (tyRef (named 1) imm (tyInt w8)) (tcons (tyInt w64) tnil))) valueLocal ∷ local (pairTy P) valueLocal ∷ local T′.mir valueLocal ∷ [];
     body = seq (assign (place 6 []) (rvOpd (copy (place 1 (deref T′.mir ∷ [])))))
         (seq (call f (copy (place 6 []) ∷ copy (place 2 []) ∷ copy (place 3 []) ∷ copy (place 4 []) ∷ []) (place 5 []))
         (seq (assign (place 1 (deref T′.mir ∷ [])) (rvOpd (copy (place 5 (field 1 ∷ [])))))
@@ -412,13 +386,13 @@ module _ (S : Sort) (B1 : Sort) (B2 : Sort) (P : Pair S) (f : Name) (F : Keyboar
   }
 
   abbrev pub value-endeds2 : Ended
-  value-endeds2 = record { signature = record { lifetimes = 1; outlives = []; params = plain (λ _. T.the-row) ∷ plain (λ _. (plainly (B1 .base) (B1 .τ))) ∷ plain (λ _. (plainly (B2 .base) (B2 .τ))) ∷ shrSliceOf (0 ∷ []) tt (plain (λ _. u8)) ∷ []; result = plain (λ _. PRs2) }; kept = (yes, (yes, (yes, (yes, tt)))) }
+  value-endeds2 = record { signature = record { lifetimes = 1; outlives = []; params = plain (λ _. T.the-row) ∷ plain (λ _. rowOf B1) ∷ plain (λ _. rowOf B2) ∷ shrSliceOf (0 ∷ []) tt (plain (λ _. u8)) ∷ []; result = plain (λ _. pairOf P) }; kept = (yes, (yes, (yes, (yes, tt)))) }
 
   abbrev pub lent-endeds2 : Ended
-  lent-endeds2 = record { signature = record { lifetimes = 2; outlives = []; params = mutRefTo (0 ∷ []) tt (plain (λ _. T.the-row)) ∷ plain (λ _. (plainly (B1 .base) (B1 .τ))) ∷ plain (λ _. (plainly (B2 .base) (B2 .τ))) ∷ shrSliceOf (1 ∷ []) tt (plain (λ _. u8)) ∷ []; result = plain (λ _. SRs2) }; kept = (yes, (yes, (yes, (yes, tt)))) }
+  lent-endeds2 = record { signature = record { lifetimes = 2; outlives = []; params = mutRefTo (0 ∷ []) tt (plain (λ _. T.the-row)) ∷ plain (λ _. rowOf B1) ∷ plain (λ _. rowOf B2) ∷ shrSliceOf (1 ∷ []) tt (plain (λ _. u8)) ∷ []; result = plain (λ _. rowOf S) }; kept = (yes, (yes, (yes, (yes, tt)))) }
 
   abbrev stayeds2 : Stays (lent-endeds2 .signature .params) (lent-endeds2 .kept)
-  stayeds2 = (stay-ref (0 ∷ []) tt (plain (λ _. T.the-row)), (stay-none (λ _. (plainly (B1 .base) (B1 .τ))) yes, (stay-none (λ _. (plainly (B2 .base) (B2 .τ))) yes, (stay-none-slice (1 ∷ []) tt (plain (λ _. u8)) yes, tt))))
+  stayeds2 = (stay-ref (0 ∷ []) tt (plain (λ _. T.the-row)), (stay-none (λ _. rowOf B1) yes, (stay-none (λ _. rowOf B2) yes, (stay-none-slice (1 ∷ []) tt (plain (λ _. u8)) yes, tt))))
 
   module _ {M : Type 1} (𝓤 : URA M) (H : Heap 𝓤) (A : Atoms 𝓤) where
     abbrev pub by-values2 : Clauses 𝓤 value-endeds2
@@ -433,7 +407,7 @@ module _ (S : Sort) (B1 : Sort) (B2 : Sort) (P : Pair S) (f : Name) (F : Keyboar
     said-ofs2 : (κ′ : Lft) (h : Keyboard) (y1 : B1 .base .Denot) (y2 : B2 .base .Denot) (z : RefT (List ℕ)) (r : P .base .Denot) → ent 𝓤 (ensured 𝓤 H A value-endeds2 by-values2 (κ′, tt) (h, (y1, (y2, (z, tt)))) tt r) (fact 𝓤 (r ≡ F h y1 y2 (now z)))
     said-ofs2 κ′ h y1 y2 z r = exE 𝓤 _ (λ ws. snd∗ 𝓤 (sem 𝓤 H A (lasts value-endeds2 (κ′, tt) (h, (y1, (y2, (z, tt)))) ws)) (fact 𝓤 (r ≡ F h y1 y2 (now z))))
 
-    module _ (W : Given 𝓤 H A) (κ κ′ : Lft) (q q′ : Share) (b o : ℕ) (γ : GName) (h : Keyboard) (y1 : B1 .base .Denot) (y2 : B2 .base .Denot) (z : RefT (List ℕ)) (is1 : Is (plainly (B1 .base) (B1 .τ)) y1 (B1 .val y1 ∷ [])) (is2 : Is (plainly (B2 .base) (B2 .τ)) y2 (B2 .val y2 ∷ [])) (isz : Is (ShrSlice (named 1) κ′ u8) z (slice-vals z)) where
+    module _ (W : Given 𝓤 H A) (κ κ′ : Lft) (q q′ : Share) (b o : ℕ) (γ : GName) (h : Keyboard) (y1 : B1 .base .Denot) (y2 : B2 .base .Denot) (z : RefT (List ℕ)) (is1 : Is (rowOf B1) y1 (B1 .val y1 ∷ [])) (is2 : Is (rowOf B2) y2 (B2 .val y2 ∷ [])) (isz : Is (ShrSlice (named 1) κ′ u8) z (slice-vals z)) where
       abbrev Args2 : Type 0
       Args2 = RefT Keyboard × (B1 .base .Denot × (B2 .base .Denot × (RefT (List ℕ) × Unit {0})))
 
@@ -449,24 +423,24 @@ module _ (S : Sort) (B1 : Sort) (B2 : Sort) (P : Pair S) (f : Name) (F : Keyboar
       abbrev Posts2 : Val → SProp 𝓤
       Posts2 = walkOf 𝓤 H A lent-endeds2 stayeds2 lents2 .post (((κ, (κ′, tt)), (q, (q′, tt)), tt, xs2, ats2), tt)
 
-      exitss2 : (r : P .base .Denot) → r ≡ F h y1 y2 (now z) → Is SRs2 (P .answer r) (S .val (P .answer r) ∷ [])
+      exitss2 : (r : P .base .Denot) → r ≡ F h y1 y2 (now z) → Is (rowOf S) (P .answer r) (S .val (P .answer r) ∷ [])
           → ent 𝓤 (⋆ 𝓤 H A (‵ (fobs γ (T.the-row .coded .code (P .keyboard r))) ∷ ‵ (fbor κ (Body (mem T.the-row) b o γ)) ∷ ‵ (flft κ q) ∷ (‵ (flft κ′ q′) ⊛ ‵ ftrue) ∷ ‵ Bytess2 ∷ [])) (Posts2 (S .val (P .answer r)))
       exitss2 r e is =
           qed W (‵ (fobs γ (T.the-row .coded .code (P .keyboard r))) ∷ ‵ (fbor κ (Body (mem T.the-row) b o γ)) ∷ ‵ (flft κ q) ∷ (‵ (flft κ′ q′) ⊛ ‵ ftrue) ∷ ‵ Bytess2 ∷ []) ∵
           suffices ! _ (ends-at 𝓤 H A lent-endeds2 stayeds2 lents2 W (((κ, (κ′, tt)), (q, (q′, tt)), tt, xs2, ats2), tt) (S .val (P .answer r)) (P .answer r) (P .keyboard r, (tt, (tt, (tt, tt)))) (tt, (tt, (tt, (tt, tt))))) $
           says ! (ap (P .answer) e, ap (P .keyboard) e) $ move ! (2 ∷ 3 ∷ []) $ join ! $ frame ! $ feqI ! (List Val) (vptr b o ∷ []) (vptr b o ∷ []) refl $ fjoin3 ! $
-          nothing ! $ move ! (2 ∷ 0 ∷ []) $ fjoin ! $ owned ! (plainly (B2 .base) (B2 .τ)) (Is (plainly (B2 .base) (B2 .τ))) (B2 .makes M 𝓤 H A W) y2 _ is2 $ fjoin ! $ owned ! (plainly (B1 .base) (B1 .τ)) (Is (plainly (B1 .base) (B1 .τ))) (B1 .makes M 𝓤 H A W) y1 _ is1 $ fjoin ! $ move ! (1 ∷ 0 ∷ []) $ fjoin ! $ owned ! SRs2 (Is SRs2) (S .makes M 𝓤 H A W) (P .answer r) _ is $ move ! (1 ∷ 0 ∷ []) $ done !
+          nothing ! $ move ! (2 ∷ 0 ∷ []) $ fjoin ! $ owned ! (rowOf B2) (Is (rowOf B2)) (B2 .makes M 𝓤 H A W) y2 _ is2 $ fjoin ! $ owned ! (rowOf B1) (Is (rowOf B1)) (B1 .makes M 𝓤 H A W) y1 _ is1 $ fjoin ! $ move ! (1 ∷ 0 ∷ []) $ fjoin ! $ owned ! (rowOf S) (Is (rowOf S)) (S .makes M 𝓤 H A W) (P .answer r) _ is $ move ! (1 ∷ 0 ∷ []) $ done !
 
       abbrev to-fs2 : ByValues2 .Ghost
       to-fs2 = (((κ′, tt), (q′, tt), tt, (h, (y1, (y2, (z, tt)))), (mach h ∷ [], (B1 .val y1 ∷ [], (B2 .val y2 ∷ [], (slice-vals z, tt))))), tt)
 
       goes-fs2 : ent 𝓤 (⋆ 𝓤 H A (‵ Bytess2 ∷ ‵ (T.the-row .own h (mach h ∷ [])) ∷ (‵ (flft κ′ q′) ⊛ ‵ ftrue) ∷ [])) (ByValues2 .pre to-fs2)
-      goes-fs2 = qed W (‵ Bytess2 ∷ ‵ (T.the-row .own h (mach h ∷ [])) ∷ (‵ (flft κ′ q′) ⊛ ‵ ftrue) ∷ []) ∵ nothing ! $ move ! (1 ∷ 0 ∷ []) $ fjoin ! $ owned ! (plainly (B2 .base) (B2 .τ)) (Is (plainly (B2 .base) (B2 .τ))) (B2 .makes M 𝓤 H A W) y2 _ is2 $ fjoin ! $ owned ! (plainly (B1 .base) (B1 .τ)) (Is (plainly (B1 .base) (B1 .τ))) (B1 .makes M 𝓤 H A W) y1 _ is1 $ fjoin ! $ move ! (1 ∷ 0 ∷ []) $ fjoin ! $ move ! (1 ∷ 0 ∷ []) $ join ! $ frame ! $ done !
+      goes-fs2 = qed W (‵ Bytess2 ∷ ‵ (T.the-row .own h (mach h ∷ [])) ∷ (‵ (flft κ′ q′) ⊛ ‵ ftrue) ∷ []) ∵ nothing ! $ move ! (1 ∷ 0 ∷ []) $ fjoin ! $ owned ! (rowOf B2) (Is (rowOf B2)) (B2 .makes M 𝓤 H A W) y2 _ is2 $ fjoin ! $ owned ! (rowOf B1) (Is (rowOf B1)) (B1 .makes M 𝓤 H A W) y1 _ is1 $ fjoin ! $ move ! (1 ∷ 0 ∷ []) $ fjoin ! $ move ! (1 ∷ 0 ∷ []) $ join ! $ frame ! $ done !
 
       module _ (C : Calls 𝓤 H) (Λ : Loops 𝓤 H) (fm : FmC 𝓤 H (W .laws) C) (known : Triple 𝓤 (C f) ByValues2) where
         walk-s2 : ent 𝓤 (onEntry 𝓤 H A (lent-endeds2 .signature) (κ, (κ′, tt)) (q, (q′, tt)) xs2 ats2) (WpFn 𝓤 H C Λ codes2 (vptr b o ∷ B1 .val y1 ∷ B2 .val y2 ∷ only (slice-vals z) ∷ []) Posts2)
         walk-s2 =
-            qed W ((‵ (flft κ q) ⊛ ‵ (flft κ′ q′) ⊛ ‵ ftrue) ∷ ‵ (owns (MutRef (named 0) κ T.the-row ∷ (plainly (B1 .base) (B1 .τ)) ∷ (plainly (B2 .base) (B2 .τ)) ∷ ShrSlice (named 1) κ′ u8 ∷ []) xs2 ats2) ∷ []) ∵ enter ! C Λ codes2 (vptr b o ∷ B1 .val y1 ∷ B2 .val y2 ∷ only (slice-vals z) ∷ []) _ $
+            qed W ((‵ (flft κ q) ⊛ ‵ (flft κ′ q′) ⊛ ‵ ftrue) ∷ ‵ (owns (MutRef (named 0) κ T.the-row ∷ (rowOf B1) ∷ (rowOf B2) ∷ ShrSlice (named 1) κ′ u8 ∷ []) xs2 ats2) ∷ []) ∵ enter ! C Λ codes2 (vptr b o ∷ B1 .val y1 ∷ B2 .val y2 ∷ only (slice-vals z) ∷ []) _ $
             alloc1 ! (λ l0. alloc1 ! (λ l1. alloc1 ! (λ l2. alloc1 ! (λ l3. alloc1 ! (λ l4. alloc1 ! (λ l5. alloc1 ! (λ l6. alloc0 ! $ params1 ! $ pass1 ! (init ! 10 refl (tt, tt)) $ pass1 ! (init ! 8 refl (B1 .typed M 𝓤 H A W y1 _ is1 .0)) $ pass1 ! (init ! 6 refl (B2 .typed M 𝓤 H A W y2 _ is2 .0)) $ pass1 ! (init ! 4 refl (shr-slice-lawful 𝓤 H A W (named 1) κ′ u8 .typed z _ isz .0)) $ pass0 ! $
             -- what the slice owns is taken out, and the borrow is opened
             move ! (15 ∷ []) $ fsplit ! $ fsplit3 ! $ drop ! $ move ! (2 ∷ []) $ fsplit ! $ drop ! $ fsplit ! $ drop ! $ fsplit ! $ move ! (1 ∷ []) $ drop ! $ move ! (17 ∷ []) $ split ! $ move ! (3 ∷ 4 ∷ 0 ∷ []) $
@@ -478,12 +452,12 @@ module _ (S : Sort) (B1 : Sort) (B2 : Sort) (P : Pair S) (f : Name) (F : Keyboar
             move ! (0 ∷ 3 ∷ 7 ∷ []) $ use3 W (raw (ByValues2 .pre to-fs2)) goes-fs2 $
             -- [pre; what the slice owns; the record's cell; the open borrow; obs; auth; the locals]
             calls-at ! fm ByValues2 known to-fs2 (and-then ! (load ! (from ! (stop !)) (look ! 6 refl)) (and-then ! (load ! (from ! (stop !)) (look ! 14 refl)) (and-then ! (load ! (from ! (stop !)) (look ! 12 refl)) (and-then ! (load ! (from ! (stop !)) (look ! 10 refl)) (no-more !))))) (λ v.
-            use1 W (later (some (λ (r : P .base .Denot). ((‵ (flft κ′ q′) ⊛ ‵ ftrue) ⊛ ‵ (PRs2 .own r (v ∷ []))) ⊛ raw (ensured 𝓤 H A value-endeds2 by-values2 (κ′, tt) (h, (y1, (y2, (z, tt)))) tt r)))) (id⊢ 𝓤 _) $ await ! tt $ pick ! (λ r.
+            use1 W (later (some (λ (r : P .base .Denot). ((‵ (flft κ′ q′) ⊛ ‵ ftrue) ⊛ ‵ (pairOf P .own r (v ∷ []))) ⊛ raw (ensured 𝓤 H A value-endeds2 by-values2 (κ′, tt) (h, (y1, (y2, (z, tt)))) tt r)))) (id⊢ 𝓤 _) $ await ! tt $ pick ! (λ r.
             split ! $ move ! (1 ∷ []) $ use1 W (raw (fact 𝓤 (r ≡ F h y1 y2 (now z)))) (said-ofs2 κ′ h y1 y2 z r) $ heard ! (r ≡ F h y1 y2 (now z)) (λ e. split ! $ move ! (1 ∷ []) $
-            peeks ! PRs2 (Is PRs2) (shows 𝓤 H A PRs2) r (v ∷ []) (λ is′.
+            peeks ! (pairOf P) (Is (pairOf P)) (shows 𝓤 H A (pairOf P)) r (v ∷ []) (λ is′.
             -- [what the answer owns; the slice's token; what the slice owns; the record's cell; the open borrow; obs; auth; the locals]
             land ! (from ! (stop !)) (init ! 9 refl (P .typed M 𝓤 H A W r v is′ .0)) $
-            rewrite ! 9 (λ (u : Val). ‵ (fat fullShare pairs2 l5 0 u)) (ap only (P .tells r _ is′)) refl $
+            rewrite ! 9 (λ (u : Val). ‵ (fat fullShare (pairTy P) l5 0 u)) (ap only (P .tells r _ is′)) refl $
             assigns ! (of-opd ! (load ! (from ! (fld ! refl (stop !))) (look-in ! 9 (sub ! 1 refl (whole !))))) (from ! (hop ! (look ! 17 refl) (stop !))) (store-raw ! 3 refl (LL.lawful T.the-type T′.the-laws 𝓤 H A W .typed (P .keyboard r) _ (P .parts r _ is′ .1) .0)) $
             assigns ! (of-opd ! (load ! (from ! (fld ! refl (stop !))) (look-in ! 9 (sub ! 0 refl (whole !))))) (from ! (stop !)) (init ! 19 refl (S .typed M 𝓤 H A W (P .answer r) _ (P .parts r _ is′ .0) .0)) $
             -- the borrow is closed at the record returned
@@ -497,5 +471,5 @@ module _ (S : Sort) (B1 : Sort) (B2 : Sort) (P : Pair S) (f : Name) (F : Keyboar
         (λ κs qs bounds a g are. via 𝓤 _ (fst∗ 𝓤 _ (emp 𝓤)) (walk-s2 W (κs .0) (κs .1 .0) (qs .0) (qs .1 .0) (a .0 .ptr .0) (a .0 .ptr .1) (a .0 .name) (a .0 .now) (a .1 .0) (a .1 .1 .0) (a .1 .1 .1 .0) (are .1 .0) (are .1 .1 .0) (are .1 .1 .1 .0) C Λ fm known))
 
     pub meetss2 : Given 𝓤 H A → (𝓣 : Tables 𝓤 H) → Triple 𝓤 (𝓣 .C f) ByValues2 → Meets 𝓤 H A (lent-endeds2 .signature) (WpFn 𝓤 H (𝓣 .C) (𝓣 .Λ) codes2) (closing 𝓤 H A lent-endeds2 lents2)
-    meetss2 W 𝓣 known = walk-meets 𝓤 H A lent-endeds2 stayeds2 W (goes-ref 𝓤 H A W 2 0 tt (plain (λ _. T.the-row)), (goes-none 𝓤 H A W 2 (λ _. (plainly (B1 .base) (B1 .τ))) yes (λ κs x f. refl), (goes-none 𝓤 H A W 2 (λ _. (plainly (B2 .base) (B2 .τ))) yes (λ κs x f. refl), (goes-none-slice 𝓤 H A W 2 (1 ∷ []) tt (plain (λ _. u8)) yes, tt)))) lents2
+    meetss2 W 𝓣 known = walk-meets 𝓤 H A lent-endeds2 stayeds2 W (goes-ref 𝓤 H A W 2 0 tt (plain (λ _. T.the-row)), (goes-none 𝓤 H A W 2 (λ _. rowOf B1) yes (λ κs x f. refl), (goes-none 𝓤 H A W 2 (λ _. rowOf B2) yes (λ κs x f. refl), (goes-none-slice 𝓤 H A W 2 (1 ∷ []) tt (plain (λ _. u8)) yes, tt)))) lents2
         (WpFn 𝓤 H (𝓣 .C) (𝓣 .Λ) codes2) (WpFn-mono 𝓤 H (W .laws) 𝓣 codes2) (walkss2 W (𝓣 .C) (𝓣 .Λ) (fmOf 𝓤 H (W .laws) 𝓣) known)
