@@ -7,7 +7,7 @@
 -- conditions the last counts (`said`). `frame` holds for those lists too.
 -- Assumes nothing.
 use Prim.Native.Nat.{ℕ, zero, suc, _+_, _-_}
-use mathlib.Core.Bool.{Bool, true, false, _&&_, _||_, true≢false}
+use mathlib.Core.Bool.{Bool, true, false, _&&_, _||_, or-true, true≢false}
 use mathlib.Core.List.{List, [], _∷_, _++_}
 use mathlib.Core.Path.{_≡_, refl, sym, ap, _∙_}
 use native.Mathlib.Omega.{arith}
@@ -18,7 +18,7 @@ use Rattle.codes.specs.Codes.{modifier}
 use Rattle.codes.specs.Hid111.{key, modifierKey, condition, Frame, Keys, OnlyModifiers, KeysReport, ConditionReport}
 use Rattle.lists.specs.Lists.{count, every, keep}
 use Rattle.codes.specs.Report.{reportOf}
-use Rattle.lists.proofs.Laws.{both-true, count-append, every-append}
+use Rattle.lists.proofs.Laws.{both-true, count-append, every-append, every-replicate}
 use Rattle.codes.proofs.Modifiers.{modified-bit, no-bit}
 use Rattle.codes.proofs.Six.{taking, report-parts, length-keyedAll, NoCondition, listed, over, said}
 
@@ -78,15 +78,6 @@ count-keep p u (c ∷ cs) e = go (p c) (eqb u c) refl refl (count-keep p u cs e)
     go false true t s rest = absurd (true≢false (sym e ∙ ap p (eqb-true u c s) ∙ t))
     go false false t s rest = rw (t, s) rest
 
-every-zeros : (m : ℕ) → every (λ u. eqb u 0 || key u) (replicate m 0) ≡ true
-unfolding every
-every-zeros zero = refl
-every-zeros (suc m) = every-zeros m
-
-or-true : (a : Bool) → a || true ≡ true
-or-true true = refl
-or-true false = refl
-
 -- of a list of keys, what takes a place is a named key
 kept-keys : (cs : List ℕ) → Keys cs → every (λ u. eqb u 0 || key u) (keep taking cs) ≡ true
 unfolding every keep
@@ -116,7 +107,7 @@ keys-report down e =
           (omega (arith, count-keep taking u down (named u is .1)));
       nothing-else = λ few.
           rw (report-parts down, listed down quiet (omega arith))
-          (every-append _ (keep taking down) (replicate (6 - count taking down) 0) (kept-keys down e) (every-zeros (6 - count taking down)));
+          (every-append _ (keep taking down) (replicate (6 - count taking down) 0) (kept-keys down e) (every-replicate _ (6 - count taking down) 0 refl));
       rolled-over = λ more. rw (report-parts down) (over down quiet (omega arith));
     }
 

@@ -5,7 +5,7 @@
 --     said-then      a condition, no other after it, and then a code that takes a place: each byte is 1
 -- Assumes nothing.
 use Prim.Native.Nat.{ℕ, zero, suc, _+_, _-_, _<_, _≤_}
-use mathlib.Core.Bool.{Bool, true, false, cond, not, _&&_, true≢false}
+use mathlib.Core.Bool.{Bool, true, false, cond, not, _&&_, and-true, true≢false}
 use mathlib.Core.List.{List, [], _∷_, _++_, append-nil}
 use mathlib.Core.Path.{_≡_, refl, sym, _∙_}
 use native.Mathlib.Nat.{add-zero, sub-zero, suc-sub-suc}
@@ -55,10 +55,6 @@ report-parts cs = parts 0 0 (replicate 6 0) cs
 no-modifier : (c : ℕ) → c < 0xE0 → modifier c ≡ false
 unfolding modifier
 no-modifier c h = rw (lt-leb 0xE0 c h)
-
-and-true : (a : Bool) → a && true ≡ a
-and-true true = refl
-and-true false = refl
 
 -- what is neither a condition nor above them is 0
 nought : (c : ℕ) → leb 1 c && leb c 3 ≡ false → leb 4 c && true ≡ false → c ≡ 0

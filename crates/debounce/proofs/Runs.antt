@@ -1,27 +1,22 @@
 -- What holds of a debouncer from its making on: it is never refused State, whatever scans it is given. Assumes nothing.
-use Prim.Native.Nat.{ℕ, zero, suc, _-_, _*_, _≤_}
+use Prim.Native.Nat.{ℕ, _-_, _*_, _≤_}
 use mathlib.Core.Bool.{Bool, true, false}
 use mathlib.Core.List.{List}
 use mathlib.Core.Path.{_≡_, refl}
 use native.Mathlib.Omega.{arith}
-use borrow.Author.Tests.{le-leb, leb-true, ltb-false}
-use lib.Dec.{leb, ltb, eqb}
+use borrow.Author.Tests.{le-leb, ltb-false}
+use lib.Dec.{ltb, eqb}
 use lib.ListN.{length, replicate}
 use lib.Seq.{take-at, drop-at}
 use Rattle.lists.specs.Lists.{alike, every}
-use Rattle.lists.proofs.Laws.{both-true}
+use Rattle.lists.proofs.Laws.{both-true, every-replicate}
 use Rattle.debounce.specs.Picture.{padded, binary, unused, isPicture, isScan}
 use Rattle.debounce.specs.Step as bounce
 use Rattle.refusal.specs.declared.Refusal.the-variants.{Scan, Bounce}
 use Rattle.debounce.specs.Calls.{switches, sizesGood, bounceGood, stateGood, makingVerdict, made, refusedMaking, bounceOf, withBounce, stepOf, rule}
 use Rattle.debounce.specs.declared.Debouncer.{Debouncer}
 use Rattle.debounce.specs.declared.Verdict.the-variants.{Fine}
-use Rattle.debounce.proofs.States.{scan-long}
-
-zeros-unused : (m : ℕ) → every unused (replicate m 0) ≡ true
-unfolding every
-zeros-unused zero = refl
-zeros-unused (suc m) = zeros-unused m
+use Rattle.debounce.proofs.States.{Legal, legal, scan-long}
 
 -- a scan in its places is a picture
 scan-picture : (n : ℕ) (scan : List ℕ) → isScan n scan ≡ true → isPicture n (padded scan) ≡ true
@@ -29,28 +24,13 @@ unfolding isScan isPicture
 scan-picture n scan e =
     let long = scan-long n scan e in
     let h = both-true (eqb (length scan) n) (every binary scan) e in
-    rw (take-at scan (replicate (128 - length scan) 0) n long, drop-at scan (replicate (128 - length scan) 0) n long, h .1) (zeros-unused (128 - length scan))
+    rw (take-at scan (replicate (128 - length scan) 0) n long, drop-at scan (replicate (128 - length scan) 0) n long, h .1) (every-replicate unused (128 - length scan) 0 refl)
 
 -- the parts of a legal state, put together
 state-of : (d : Debouncer) → bounceGood (d .rows) (d .columns) (d .«nb_bounce») ≡ true → d .since ≤ d .«nb_bounce»
     → isPicture (switches d) (d .cur) ≡ true → isPicture (switches d) (d .new) ≡ true → stateGood d ≡ true
 unfolding stateGood
 state-of d b s c n = rw (b, le-leb (d .since) (d .«nb_bounce») s, c, n)
-
--- and taken apart
-pub record Legal (d : Debouncer) : Type 0 where
-  pub sizes : bounceGood (d .rows) (d .columns) (d .«nb_bounce») ≡ true
-  pub since-low : d .since ≤ d .«nb_bounce»
-  pub accepted : isPicture (switches d) (d .cur) ≡ true
-  pub candidate : isPicture (switches d) (d .new) ≡ true
-
-legal-parts : (d : Debouncer) → stateGood d ≡ true → Legal d
-unfolding stateGood
-legal-parts d e =
-    let b = both-true (bounceGood (d .rows) (d .columns) (d .«nb_bounce»)) _ e in
-    let s = both-true (leb (d .since) (d .«nb_bounce»)) _ (b .1) in
-    let p = both-true (isPicture (switches d) (d .cur)) (isPicture (switches d) (d .new)) (s .1) in
-    record { sizes = b .0; since-low = leb-true (d .since) (d .«nb_bounce») (s .0); accepted = p .0; candidate = p .1 }
 
 refused-legal : stateGood refusedMaking ≡ true
 unfolding stateGood bounceGood sizesGood isPicture every
@@ -98,4 +78,4 @@ step-by d scan false e l s =
 
 -- a legal debouncer stays legal with every scan that is not refused: so from its making on no call is refused State
 pub step-legal : (d : Debouncer) (scan : List ℕ) → stateGood d ≡ true → isScan (switches d) scan ≡ true → stateGood (withBounce d (stepOf d scan .bounce)) ≡ true
-step-legal d scan e s = step-by d scan (alike (d .cur) (padded scan)) refl (legal-parts d e) s
+step-legal d scan e s = step-by d scan (alike (d .cur) (padded scan)) refl (legal d e) s

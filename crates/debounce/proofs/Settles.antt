@@ -9,7 +9,7 @@ use native.Mathlib.Omega.{arith}
 use borrow.Author.Tests.{le-leb, lt-ltb, le-ltb}
 use lib.ListN.{length}
 use Rattle.lists.specs.Lists.{alike, laid}
-use Rattle.lists.proofs.Laws.{alike-is, alike-self}
+use Rattle.lists.proofs.Laws.{alike-is, alike-self, alike-not}
 use Rattle.debounce.specs.Picture.{padded, isScan}
 use Rattle.debounce.specs.Step as bounce
 use Rattle.debounce.specs.Events.{written}
@@ -21,14 +21,6 @@ use Rattle.debounce.specs.declared.Update.the-variants.{Changed}
 use Rattle.debounce.specs.declared.Updated.{Updated}
 use Rattle.debounce.specs.declared.Telling.the-variants.{Events}
 use Rattle.debounce.proofs.Runs.{step-legal}
-
--- lists that are not equal do not pass the test
-unlike : (a b : List ℕ) → (a ≡ b → ⊥) → alike a b ≡ false
-unlike a b n = go (alike a b) refl
-  where
-    go : (t : Bool) → alike a b ≡ t → t ≡ false
-    go true e = absurd (n (alike-is a b e))
-    go false e = refl
 
 -- what a scan that is not refused answers
 update-is : (d : Debouncer) (scan : List ℕ) → stateGood d ≡ true → isScan (switches d) scan ≡ true
@@ -59,9 +51,9 @@ module _ (d : Debouncer) (scan : List ℕ) (fresh : Fresh d scan) where
   -- the next such scan
   step-at : (n : ℕ) → bounce.step alike (d .«nb_bounce») (stood n) (padded scan) ≡ bounce.passed alike (d .«nb_bounce») (bounceOf (standing d scan (n + 1)))
   unfolding bounce.step bounce.grown
-  step-at zero = rw (unlike (d .cur) (padded scan) (fresh .differs)) (ap (bounce.passed alike (d .«nb_bounce»)) first)
+  step-at zero = rw (alike-not (d .cur) (padded scan) (fresh .differs)) (ap (bounce.passed alike (d .«nb_bounce»)) first)
   step-at (suc n) =
-      rw (unlike (d .cur) (padded scan) (fresh .differs), alike-self (padded scan))
+      rw (alike-not (d .cur) (padded scan) (fresh .differs), alike-self (padded scan))
       (ap (λ (k : ℕ). bounce.passed alike (d .«nb_bounce») (bounceOf (standing d scan (k + 1)))) (add-one n))
 
   -- it waits as long as the count is not past nb_bounce, and then it is accepted

@@ -43,14 +43,23 @@ sized rows columns nb e =
       few = mul-le-mul {n₁ = rows} {m₁ = columns} {n₂ = 8} {m₂ = 16} (leb-true rows 8 (r .1)) (leb-true columns 16 (c .1));
     }
 
--- a legal debouncer: its sizes, and that its count is not past nb_bounce
-pub legal : (d : Debouncer) → stateGood d ≡ true → Sized (d .rows) (d .columns) (d .«nb_bounce») × (d .since ≤ d .«nb_bounce»)
+-- a legal debouncer, part by part
+pub record Legal (d : Debouncer) : Type 0 where
+  pub sizes : bounceGood (d .rows) (d .columns) (d .«nb_bounce») ≡ true
+  pub since-low : d .since ≤ d .«nb_bounce»
+  pub accepted : isPicture (switches d) (d .cur) ≡ true
+  pub candidate : isPicture (switches d) (d .new) ≡ true
+
+pub legal : (d : Debouncer) → stateGood d ≡ true → Legal d
 unfolding stateGood
 legal d e =
-    let b = both-true (bounceGood (d .rows) (d .columns) (d .«nb_bounce»)) (leb (d .since) (d .«nb_bounce») && (isPicture (switches d) (d .cur) && isPicture (switches d) (d .new))) e in (
-      sized (d .rows) (d .columns) (d .«nb_bounce») (b .0),
-      leb-true (d .since) (d .«nb_bounce») (both-true (leb (d .since) (d .«nb_bounce»)) (isPicture (switches d) (d .cur) && isPicture (switches d) (d .new)) (b .1) .0),
-    )
+    let b = both-true (bounceGood (d .rows) (d .columns) (d .«nb_bounce»)) _ e in
+    let s = both-true (leb (d .since) (d .«nb_bounce»)) _ (b .1) in
+    let p = both-true (isPicture (switches d) (d .cur)) (isPicture (switches d) (d .new)) (s .1) in
+    record { sizes = b .0; since-low = leb-true (d .since) (d .«nb_bounce») (s .0); accepted = p .0; candidate = p .1 }
+
+pub legal-sized : (d : Debouncer) → stateGood d ≡ true → Sized (d .rows) (d .columns) (d .«nb_bounce»)
+legal-sized d e = sized (d .rows) (d .columns) (d .«nb_bounce») (legal d e .sizes)
 
 -- a rule that leaves no refusal is kept, and so are those behind it
 kept : (test : Bool) (r : Refusal) (rest : Verdict) → rule test r rest ≡ Fine → (test ≡ true) × (rest ≡ Fine)
@@ -77,8 +86,8 @@ pub record Taken (d : Debouncer) (scan : List ℕ) : Type 0 where
 
 taken : (d : Debouncer) (scan : List ℕ) → stateGood d ≡ true → isScan (switches d) scan ≡ true → Taken d scan
 taken d scan s f =
-    let l = legal d s in
-    record { sizes = l .0; since-low = omega (arith, l .0 .low, l .1); scan-fits = omega (arith, l .0 .few, scan-long (switches d) scan f) }
+    let sizes = legal-sized d s in
+    record { sizes = sizes; since-low = omega (arith, sizes .low, legal d s .since-low); scan-fits = omega (arith, sizes .few, scan-long (switches d) scan f) }
 
 pub update-fine : (d : Debouncer) (scan : List ℕ) → updateVerdict d scan ≡ Fine → Taken d scan
 unfolding updateVerdict

@@ -11,6 +11,7 @@ use Rattle.debounce.specs.Calls.{switches, withBounce}
 use Rattle.debounce.specs.declared.Debouncer.{Debouncer}
 use Rattle.debounce.specs.declared.Step.{Step}
 
+-- a place holds at most so much
 abbrev pub atMost : ℕ → ℕ → Bool
 atMost most u = leb u most
 

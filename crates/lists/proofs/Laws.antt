@@ -1,5 +1,5 @@
 -- Laws of the words on lists, and of tests that hold. Assumes nothing.
-use Prim.Native.Nat.{ℕ, _+_, _<_, _≤_}
+use Prim.Native.Nat.{ℕ, zero, suc, _+_, _<_, _≤_}
 use mathlib.Core.Bool.{Bool, true, false, _&&_, and-true, and-false, and-assoc}
 use mathlib.Core.List.{List, [], _∷_, _++_}
 use mathlib.Core.Path.{_≡_, refl, sym, _∙_}
@@ -7,7 +7,7 @@ use native.Mathlib.Numerals.{add-one}
 use native.Mathlib.Omega.{arith}
 use borrow.Author.Tests.{eq-eqb, ne-eqb, eqb-true}
 use lib.Dec.{eqb}
-use lib.ListN.{length, take, drop, getD, length-append, length-drop, drop-of-length-le, take-append-drop}
+use lib.ListN.{length, take, drop, getD, replicate, length-append, length-drop, drop-of-length-le, take-append-drop}
 use lib.Seq.{drop-cons}
 use Rattle.lists.specs.Lists.{alike, laid, count, every}
 
@@ -36,6 +36,11 @@ module _ {A : Type 0} (p : A → Bool) where
 
   pub every-append : (xs ys : List A) → every p xs ≡ true → every p ys ≡ true → every p (xs ++ ys) ≡ true
   every-append xs ys e f = rw (every-split xs ys, e) f
+
+  pub every-replicate : (n : ℕ) (x : A) → p x ≡ true → every p (replicate n x) ≡ true
+  unfolding every
+  every-replicate zero x e = refl
+  every-replicate (suc n) x e = rw e (every-replicate n x e)
 
   pub count-append : (xs ys : List A) → count p (xs ++ ys) ≡ count p xs + count p ys
   unfolding count
@@ -74,7 +79,7 @@ module _ (a b : List ℕ) (i : ℕ) where
   unfolding alike
   alike-none h g = rw (drop-of-length-le a h, drop-of-length-le b g)
 
--- lists that pass the test are equal, and equal ones pass it
+-- lists that pass the test are equal, and equal ones pass it; so others do not
 pub alike-is : (a b : List ℕ) → alike a b ≡ true → a ≡ b
 unfolding alike
 alike-is [] [] e = refl
@@ -88,6 +93,13 @@ pub alike-self : (a : List ℕ) → alike a a ≡ true
 unfolding alike
 alike-self [] = refl
 alike-self (x ∷ a) = rw (eq-eqb x x refl) (alike-self a)
+
+pub alike-not : (a b : List ℕ) → (a ≡ b → ⊥) → alike a b ≡ false
+alike-not a b n = go (alike a b) refl
+  where
+    go : (t : Bool) → alike a b ≡ t → t ≡ false
+    go true e = absurd (n (alike-is a b e))
+    go false e = refl
 
 -- a buffer whose first bytes are these, and which is as it was past them; bytes that fit leave a buffer as long as it was
 pub laid-is : (buffer was bytes : List ℕ) (k : ℕ) → k ≡ length bytes → take k buffer ≡ bytes → drop k buffer ≡ drop k was → buffer ≡ laid bytes was

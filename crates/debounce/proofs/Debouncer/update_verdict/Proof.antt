@@ -5,7 +5,7 @@ use mathlib.Core.Path.{_≡_, sym, _∙_}
 use borrow.Author.Tests.{not-true, not-false}
 use native.Mathlib.Omega.{arith}
 use Rattle.debounce.specs.Calls.{stateGood, rule, updateVerdict}
-use Rattle.debounce.proofs.States.{legal}
+use Rattle.debounce.proofs.States.{legal-sized}
 use Rattle.debounce.proofs.is_scan.Reads as is-scan
 use Rattle.debounce.proofs.Debouncer.state_good.Reads as state-good
 use Rattle.debounce.proofs.Debouncer.update_verdict.Reads as reads
@@ -22,7 +22,7 @@ unfolding updateVerdict rule
 returns c = rw (sym (c .before .state-good .ensures) ∙ not-true _ (c .if1 .taken))
 
 mul-is-scan : tie.Need-mul-is-scan
-mul-is-scan c = omega (arith, legal _ (good (c .before)) .0 .few)
+mul-is-scan c = omega (arith, legal-sized _ (good (c .before)) .few)
 
 returns-2 : tie.Need-returns-2
 unfolding updateVerdict rule
