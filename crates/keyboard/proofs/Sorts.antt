@@ -1,4 +1,4 @@
--- The plain types of the lent calls, as `Walk.antt` takes them. Assumes nothing.
+-- The plain types of the lent calls, as `Steps.antt` takes them. Assumes nothing.
 use mir.Syntax.{w8, tyInt, tyBool}
 use mir.Val.{vint, vbool}
 use denote.Plain.{uint-tells, uint-lawful, uint-makes, bool-tells, bool-lawful, bool-makes}
@@ -6,7 +6,7 @@ use denote.Builtin.{u8, bool}
 use denote.Struct.Laws as LL
 use Rattle.codes.proofs.report.KbHidReport as R
 use Rattle.codes.proofs.report.KbHidReport.Laws as R′
-use Rattle.keyboard.proofs.Walk.{Sort, Pair}
+use Rattle.keyboard.proofs.Steps.{Sort, Pair}
 use Rattle.keyboard.proofs.Got as G
 use Rattle.keyboard.proofs.Got.Laws as G′
 use Rattle.keyboard.proofs.Changed as C
