@@ -143,6 +143,7 @@ fn are_at_most(places: &[u8], most: u8) -> bool
     good
 }
 
+// Once the places past n are 0, all 128 tell of the first n, and a fixed number of places is looked at sooner.
 fn is_picture(places: [u8; 128], n: usize) -> bool
     requires { ⌜ n ≤ 128 ⌝ }
     ensures { λ r. ⌜ r ≡ isPicture n places ⌝ }
@@ -253,18 +254,6 @@ fn tell(before: [u8; 128], after: [u8; 128], n: usize, columns: usize, out: &mut
     told
 }
 
-fn making_verdict(rows: usize, columns: usize, nb_bounce: u16, start: &[u8]) -> Verdict
-    ensures { λ r. ⌜ r ≡ makingVerdict rows columns «nb_bounce» (now (start .entry)) ⌝ }
-{
-    if !bounce_good(rows, columns, nb_bounce) {
-        return Verdict::Refused(Refusal::Bounce);
-    }
-    if !is_scan(start, rows * columns) {
-        return Verdict::Refused(Refusal::Scan);
-    }
-    Verdict::Fine
-}
-
 // The events of a step, in the buffer, and how many.
 fn tell_step(step: Step, out: &mut [u8]) -> usize
     requires { ⌜ (0 < step .debouncer .columns) × (step .debouncer .columns ≤ 16) × (switches (step .debouncer) ≤ 128) × (3 * switches (step .debouncer) ≤ length (now out)) ⌝ }
@@ -278,6 +267,18 @@ fn tell_step(step: Step, out: &mut [u8]) -> usize
     let after = debouncer.cur;
     let n = debouncer.rows * debouncer.columns;
     tell(before, after, n, debouncer.columns, out)
+}
+
+fn making_verdict(rows: usize, columns: usize, nb_bounce: u16, start: &[u8]) -> Verdict
+    ensures { λ r. ⌜ r ≡ makingVerdict rows columns «nb_bounce» (now (start .entry)) ⌝ }
+{
+    if !bounce_good(rows, columns, nb_bounce) {
+        return Verdict::Refused(Refusal::Bounce);
+    }
+    if !is_scan(start, rows * columns) {
+        return Verdict::Refused(Refusal::Scan);
+    }
+    Verdict::Fine
 }
 
 impl Debouncer {
