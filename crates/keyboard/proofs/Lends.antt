@@ -75,12 +75,12 @@ module _ {M : Type 1} (𝓤 : URA M) (H : Heap 𝓤) (A : Atoms 𝓤) (W : Given
       spelt ! T.the-row (Is T.the-row) (shows 𝓤 H A T.the-row) (LL.vals T.the-type T′.the-laws) (LL.tells T.the-type T′.the-laws) fullShare k vs l 0 $
       move ! (1 ∷ []) $ peeks ! T.the-row (Is T.the-row) (shows 𝓤 H A T.the-row) k (mach k ∷ []) (λ is. at-once ! $ check ! is $ keep ! (1 ∷ []) $ by ! (W .laws .raw-at fullShare T′.mir l 0 (mach k))))
 
-put : (S : Sort) (P : Pair S) (r : P .base .Denot) (a : S .base .Denot) (k : Keyboard) → a ≡ P .answer r → k ≡ P .keyboard r → Is (S .base) a (S .val a ∷ []) → Is T.the-row k (mach k ∷ [])
+put : (S : Sort) (P : Pair S) (r : P .base .Denot) (a : S .base .Denot) (k : Keyboard) → (a ≡ P .answer r) × (k ≡ P .keyboard r) → (v : Val) → Is (S .base) a (v ∷ []) → Is T.the-row k (mach k ∷ [])
     → Is (P .base) r (vstruct (vcons (S .val a) (vcons (mach k) vnil)) ∷ [])
-put S P r a k ea ek ia ik =
-    subst (λ u. Is (P .base) r (vstruct (vcons (S .val u) (vcons (mach k) vnil)) ∷ [])) (sym ea)
-    (subst (λ z. Is (P .base) r (vstruct (vcons (S .val (P .answer r)) (vcons (mach z) vnil)) ∷ [])) (sym ek)
-    (P .joined r (subst (λ u. Is (S .base) u (S .val u ∷ [])) ea ia) (subst (λ z. Is T.the-row z (mach z ∷ [])) ek ik)))
+put S P r a k e v ia ik =
+    subst (λ u. Is (P .base) r (vstruct (vcons (S .val u) (vcons (mach k) vnil)) ∷ [])) (sym (e .0))
+    (subst (λ z. Is (P .base) r (vstruct (vcons (S .val (P .answer r)) (vcons (mach z) vnil)) ∷ [])) (sym (e .1))
+    (P .joined r (subst (λ u. Is (S .base) u (S .val u ∷ [])) (e .0) (subst (Is (S .base) a) (S .tells a _ ia) ia)) (subst (λ z. Is T.the-row z (mach z ∷ [])) (e .1) ik)))
 
 -- ---- 0 arguments beside the keyboard
 module _ (S : Sort) (P : Pair S) (f : Name) (F : Keyboard → P .base .Denot) where
@@ -155,10 +155,10 @@ module _ (S : Sort) (P : Pair S) (f : Name) (F : Keyboard → P .base .Denot) wh
             use3 W (later (given (Is T.the-row (ws .0) (mach (ws .0) ∷ [])) (‵ (fat fullShare T′.mir l2 0 (mach (ws .0)))))) (back 𝓤 H A W (α ∷ []) δ (ws .0) l2) $ await ! tt $ learn ! (λ isk.
             -- [the local; true; what the answer owns; true; the other locals]
             assigns ! (of-opd ! (load ! (from ! (stop !)) (look ! 0 refl))) (from ! (stop !)) (init ! 4 refl (typed 𝓤 H A W (ws .0) isk)) $
-            assigns ! (agg ! (and-then ! (load ! (from ! (stop !)) (look ! 8 refl)) (and-then ! (load ! (from ! (stop !)) (look ! 4 refl)) (no-more !)))) (from ! (stop !)) (init ! 13 refl (P .typed M 𝓤 H A W (F h) _ (put S P (F h) r (ws .0) (e .0) (e .1) (subst (Is (S .base) r) (S .tells r _ is′) is′) isk) .0)) $
+            assigns ! (agg ! (and-then ! (load ! (from ! (stop !)) (look ! 8 refl)) (and-then ! (load ! (from ! (stop !)) (look ! 4 refl)) (no-more !)))) (from ! (stop !)) (init ! 13 refl (P .typed M 𝓤 H A W (F h) _ (put S P (F h) r (ws .0) e v is′ isk) .0)) $
             returns ! (look ! 13 refl) $ forget ! 0 refl $ forget ! 4 refl $ forget ! 6 refl $ forget ! 8 refl $ forget ! 11 refl $ forget ! 13 refl $
             move ! (13 ∷ 14 ∷ []) $ free1 ! $ move ! (11 ∷ 12 ∷ []) $ free1 ! $ move ! (0 ∷ 10 ∷ []) $ free1 ! $ move ! (7 ∷ 8 ∷ []) $ free1 ! $ move ! (5 ∷ 6 ∷ []) $ free1 ! $ move ! (3 ∷ 4 ∷ []) $ free1 ! $ free0 ! $
-            keep ! [] $ by ! (exits0 _ (put S P (F h) r (ws .0) (e .0) (e .1) (subst (Is (S .base) r) (S .tells r _ is′) is′) isk))))))))))))))))
+            keep ! [] $ by ! (exits0 _ (put S P (F h) r (ws .0) e v is′ isk))))))))))))))))
 
     walks0 : (W : Given 𝓤 H A) (C : Calls 𝓤 H) (Λ : Loops 𝓤 H) → FmC 𝓤 H (W .laws) C → Triple 𝓤 (C f) Lent0 → Walks 𝓤 H A by0 stayed0 (WpFn 𝓤 H C Λ through0) value0
     walks0 W C Λ fm known = walked 𝓤 H A by0 stayed0 value0 (WpFn 𝓤 H C Λ through0) (λ κs. (LL.vals T.the-type T′.the-laws, tt)) (λ κs. (LL.tells T.the-type T′.the-laws, tt))
@@ -241,10 +241,10 @@ module _ (S : Sort) (B1 : Sort) (P : Pair S) (f : Name) (F : Keyboard → B1 .ba
             use3 W (later (given (Is T.the-row (ws .0) (mach (ws .0) ∷ [])) (‵ (fat fullShare T′.mir l3 0 (mach (ws .0)))))) (back 𝓤 H A W (α ∷ []) δ (ws .0) l3) $ await ! tt $ learn ! (λ isk.
             -- [the local; true; what the answer owns; true; the other locals]
             assigns ! (of-opd ! (load ! (from ! (stop !)) (look ! 0 refl))) (from ! (stop !)) (init ! 4 refl (typed 𝓤 H A W (ws .0) isk)) $
-            assigns ! (agg ! (and-then ! (load ! (from ! (stop !)) (look ! 8 refl)) (and-then ! (load ! (from ! (stop !)) (look ! 4 refl)) (no-more !)))) (from ! (stop !)) (init ! 15 refl (P .typed M 𝓤 H A W (F h y1) _ (put S P (F h y1) r (ws .0) (e .0) (e .1) (subst (Is (S .base) r) (S .tells r _ is′) is′) isk) .0)) $
+            assigns ! (agg ! (and-then ! (load ! (from ! (stop !)) (look ! 8 refl)) (and-then ! (load ! (from ! (stop !)) (look ! 4 refl)) (no-more !)))) (from ! (stop !)) (init ! 15 refl (P .typed M 𝓤 H A W (F h y1) _ (put S P (F h y1) r (ws .0) e v is′ isk) .0)) $
             returns ! (look ! 15 refl) $ forget ! 0 refl $ forget ! 4 refl $ forget ! 6 refl $ forget ! 8 refl $ forget ! 11 refl $ forget ! 13 refl $ forget ! 15 refl $
             move ! (15 ∷ 16 ∷ []) $ free1 ! $ move ! (13 ∷ 14 ∷ []) $ free1 ! $ move ! (11 ∷ 12 ∷ []) $ free1 ! $ move ! (0 ∷ 10 ∷ []) $ free1 ! $ move ! (7 ∷ 8 ∷ []) $ free1 ! $ move ! (5 ∷ 6 ∷ []) $ free1 ! $ move ! (3 ∷ 4 ∷ []) $ free1 ! $ free0 ! $
-            keep ! [] $ by ! (exits1 _ (put S P (F h y1) r (ws .0) (e .0) (e .1) (subst (Is (S .base) r) (S .tells r _ is′) is′) isk)))))))))))))))))
+            keep ! [] $ by ! (exits1 _ (put S P (F h y1) r (ws .0) e v is′ isk)))))))))))))))))
 
     walks1 : (W : Given 𝓤 H A) (C : Calls 𝓤 H) (Λ : Loops 𝓤 H) → FmC 𝓤 H (W .laws) C → Triple 𝓤 (C f) Lent1 → Walks 𝓤 H A by1 stayed1 (WpFn 𝓤 H C Λ through1) value1
     walks1 W C Λ fm known = walked 𝓤 H A by1 stayed1 value1 (WpFn 𝓤 H C Λ through1) (λ κs. (LL.vals T.the-type T′.the-laws, (λ y. B1 .val y ∷ [], tt))) (λ κs. (LL.tells T.the-type T′.the-laws, (B1 .tells, tt)))
@@ -327,10 +327,10 @@ module _ (S : Sort) (B1 : Sort) (B2 : Sort) (P : Pair S) (f : Name) (F : Keyboar
             use3 W (later (given (Is T.the-row (ws .0) (mach (ws .0) ∷ [])) (‵ (fat fullShare T′.mir l4 0 (mach (ws .0)))))) (back 𝓤 H A W (α ∷ []) δ (ws .0) l4) $ await ! tt $ learn ! (λ isk.
             -- [the local; true; what the answer owns; true; the other locals]
             assigns ! (of-opd ! (load ! (from ! (stop !)) (look ! 0 refl))) (from ! (stop !)) (init ! 4 refl (typed 𝓤 H A W (ws .0) isk)) $
-            assigns ! (agg ! (and-then ! (load ! (from ! (stop !)) (look ! 8 refl)) (and-then ! (load ! (from ! (stop !)) (look ! 4 refl)) (no-more !)))) (from ! (stop !)) (init ! 17 refl (P .typed M 𝓤 H A W (F h y1 y2) _ (put S P (F h y1 y2) r (ws .0) (e .0) (e .1) (subst (Is (S .base) r) (S .tells r _ is′) is′) isk) .0)) $
+            assigns ! (agg ! (and-then ! (load ! (from ! (stop !)) (look ! 8 refl)) (and-then ! (load ! (from ! (stop !)) (look ! 4 refl)) (no-more !)))) (from ! (stop !)) (init ! 17 refl (P .typed M 𝓤 H A W (F h y1 y2) _ (put S P (F h y1 y2) r (ws .0) e v is′ isk) .0)) $
             returns ! (look ! 17 refl) $ forget ! 0 refl $ forget ! 4 refl $ forget ! 6 refl $ forget ! 8 refl $ forget ! 11 refl $ forget ! 13 refl $ forget ! 15 refl $ forget ! 17 refl $
             move ! (17 ∷ 18 ∷ []) $ free1 ! $ move ! (15 ∷ 16 ∷ []) $ free1 ! $ move ! (13 ∷ 14 ∷ []) $ free1 ! $ move ! (11 ∷ 12 ∷ []) $ free1 ! $ move ! (0 ∷ 10 ∷ []) $ free1 ! $ move ! (7 ∷ 8 ∷ []) $ free1 ! $ move ! (5 ∷ 6 ∷ []) $ free1 ! $ move ! (3 ∷ 4 ∷ []) $ free1 ! $ free0 ! $
-            keep ! [] $ by ! (exits2 _ (put S P (F h y1 y2) r (ws .0) (e .0) (e .1) (subst (Is (S .base) r) (S .tells r _ is′) is′) isk))))))))))))))))))
+            keep ! [] $ by ! (exits2 _ (put S P (F h y1 y2) r (ws .0) e v is′ isk))))))))))))))))))
 
     walks2 : (W : Given 𝓤 H A) (C : Calls 𝓤 H) (Λ : Loops 𝓤 H) → FmC 𝓤 H (W .laws) C → Triple 𝓤 (C f) Lent2 → Walks 𝓤 H A by2 stayed2 (WpFn 𝓤 H C Λ through2) value2
     walks2 W C Λ fm known = walked 𝓤 H A by2 stayed2 value2 (WpFn 𝓤 H C Λ through2) (λ κs. (LL.vals T.the-type T′.the-laws, (λ y. B1 .val y ∷ [], (λ y. B2 .val y ∷ [], tt)))) (λ κs. (LL.tells T.the-type T′.the-laws, (B1 .tells, (B2 .tells, tt))))
@@ -417,10 +417,10 @@ module _ (S : Sort) (B1 : Sort) (B2 : Sort) (P : Pair S) (f : Name) (F : Keyboar
             use3 W (later (given (Is T.the-row (ws .0) (mach (ws .0) ∷ [])) (‵ (fat fullShare T′.mir l5 0 (mach (ws .0)))))) (back 𝓤 H A W (α ∷ []) δ (ws .0) l5) $ await ! tt $ learn ! (λ isk.
             -- [the local; the slice's token; what the answer owns; true; the other locals; what the slice owns]
             assigns ! (of-opd ! (load ! (from ! (stop !)) (look ! 0 refl))) (from ! (stop !)) (init ! 4 refl (typed 𝓤 H A W (ws .0) isk)) $
-            assigns ! (agg ! (and-then ! (load ! (from ! (stop !)) (look ! 8 refl)) (and-then ! (load ! (from ! (stop !)) (look ! 4 refl)) (no-more !)))) (from ! (stop !)) (init ! 19 refl (P .typed M 𝓤 H A W (F h y1 y2 (now z)) _ (put S P (F h y1 y2 (now z)) r (ws .0) (e .0) (e .1) (subst (Is (S .base) r) (S .tells r _ is′) is′) isk) .0)) $
+            assigns ! (agg ! (and-then ! (load ! (from ! (stop !)) (look ! 8 refl)) (and-then ! (load ! (from ! (stop !)) (look ! 4 refl)) (no-more !)))) (from ! (stop !)) (init ! 19 refl (P .typed M 𝓤 H A W (F h y1 y2 (now z)) _ (put S P (F h y1 y2 (now z)) r (ws .0) e v is′ isk) .0)) $
             returns ! (look ! 19 refl) $ forget ! 0 refl $ forget ! 4 refl $ forget ! 6 refl $ forget ! 8 refl $ forget ! 11 refl $ forget ! 13 refl $ forget ! 15 refl $ forget ! 17 refl $ forget ! 19 refl $
             move ! (19 ∷ 20 ∷ []) $ free1 ! $ move ! (17 ∷ 18 ∷ []) $ free1 ! $ move ! (15 ∷ 16 ∷ []) $ free1 ! $ move ! (13 ∷ 14 ∷ []) $ free1 ! $ move ! (11 ∷ 12 ∷ []) $ free1 ! $ move ! (0 ∷ 10 ∷ []) $ free1 ! $ move ! (7 ∷ 8 ∷ []) $ free1 ! $ move ! (5 ∷ 6 ∷ []) $ free1 ! $ move ! (3 ∷ 4 ∷ []) $ free1 ! $ free0 ! $
-            keep ! (0 ∷ 3 ∷ []) $ by ! (exitss2 _ (put S P (F h y1 y2 (now z)) r (ws .0) (e .0) (e .1) (subst (Is (S .base) r) (S .tells r _ is′) is′) isk)))))))))))))))))))
+            keep ! (0 ∷ 3 ∷ []) $ by ! (exitss2 _ (put S P (F h y1 y2 (now z)) r (ws .0) e v is′ isk)))))))))))))))))))
 
     walkss2 : (W : Given 𝓤 H A) (C : Calls 𝓤 H) (Λ : Loops 𝓤 H) → FmC 𝓤 H (W .laws) C → Triple 𝓤 (C f) Lents2 → Walks 𝓤 H A bys2 stayeds2 (WpFn 𝓤 H C Λ throughs2) values2
     walkss2 W C Λ fm known = walked 𝓤 H A bys2 stayeds2 values2 (WpFn 𝓤 H C Λ throughs2) (λ κs. (LL.vals T.the-type T′.the-laws, (λ y. B1 .val y ∷ [], (λ y. B2 .val y ∷ [], (slice-vals, tt))))) (λ κs. (LL.tells T.the-type T′.the-laws, (B1 .tells, (B2 .tells, (shr-slice-tells (named 0) (κs .0) u8, tt)))))

@@ -31,7 +31,7 @@ use denote.Signature.{plain, mutRefTo, shrSliceOf}
 use denote.Steps.{only, peeks, heard, nothing}
 use denote.Triple.Statement.{Contract, Triple}
 use denote.Triple.Call.{calls-at}
-use denote.Triple.Entry.{onEntry}
+use denote.Triple.Entry.{Args, onEntry}
 use denote.Triple.Spec.{Meets, tripleOf}
 use denote.Triple.Clauses.{Ended, Clauses, closing, ensured, lasts}
 use denote.Triple.Walked.{says, Stays, stay-ref, stay-none, stay-none-slice, walkOf, goes-none, goes-none-slice, goes-ref, Walks, ends-at, walked, walk-meets}
@@ -74,14 +74,8 @@ module _ (S : Sort) (P : Pair S) (f : Name) (F : Keyboard → P .base .Denot) wh
     abbrev pub ByValue0 : Contract 𝓤
     ByValue0 = tripleOf 𝓤 H A (value-ended0 .signature) (closing 𝓤 H A value-ended0 by-value0)
 
-    said-of0 : (h : Keyboard) (r : P .base .Denot) → ent 𝓤 (ensured 𝓤 H A value-ended0 by-value0 tt (h, tt) tt r) (fact 𝓤 (r ≡ F h))
-    said-of0 h r = exE 𝓤 _ (λ ws. snd∗ 𝓤 (sem 𝓤 H A (lasts value-ended0 tt (h, tt) ws)) (fact 𝓤 (r ≡ F h)))
-
     module _ (W : Given 𝓤 H A) (κ : Lft) (q : Share) (b o : ℕ) (γ : GName) (h : Keyboard) where
-      abbrev Arg0 : Type 0
-      Arg0 = RefT Keyboard × Unit {0}
-
-      abbrev x0 : Arg0
+      abbrev x0 : Args (lent-ended0 .signature) (κ, tt)
       x0 = (record { ptr = (b, o); name = γ; now = h }, tt)
 
       abbrev at0 : List Val × Unit {0}
@@ -116,7 +110,7 @@ module _ (S : Sort) (P : Pair S) (f : Name) (F : Keyboard → P .base .Denot) wh
             move ! (1 ∷ []) $ use1 W (raw (ByValue0 .pre to-f0)) goes-f0 $
             calls-at ! fm ByValue0 known to-f0 (and-then ! (load ! (from ! (stop !)) (look ! 7 refl)) (no-more !)) (λ v.
             use1 W (later (some (λ (r : P .base .Denot). (‵ ftrue ⊛ ‵ (pairOf P .own r (v ∷ []))) ⊛ raw (ensured 𝓤 H A value-ended0 by-value0 tt (h, tt) tt r)))) (id⊢ 𝓤 _) $ await ! tt $ pick ! (λ r.
-            split ! $ move ! (1 ∷ []) $ use1 W (raw (fact 𝓤 (r ≡ F h))) (said-of0 h r) $ heard ! (r ≡ F h) (λ e. split ! $ drop ! $
+            split ! $ move ! (1 ∷ []) $ use1 W (raw (fact 𝓤 (r ≡ F h))) (exE 𝓤 _ (λ ws. snd∗ 𝓤 (sem 𝓤 H A (lasts value-ended0 tt (h, tt) ws)) (fact 𝓤 (r ≡ F h)))) $ heard ! (r ≡ F h) (λ e. split ! $ drop ! $
             peeks ! (pairOf P) (Is (pairOf P)) (shows 𝓤 H A (pairOf P)) r (v ∷ []) (λ is′.
             land ! (from ! (stop !)) (init ! 9 refl (P .typed M 𝓤 H A W r v is′ .0)) $
             rewrite ! 9 (λ (u : Val). ‵ (fat fullShare (pairTy P) l2 0 u)) (ap only (P .tells r _ is′)) refl $
@@ -170,14 +164,8 @@ module _ (S : Sort) (B1 : Sort) (P : Pair S) (f : Name) (F : Keyboard → B1 .ba
     abbrev pub ByValue1 : Contract 𝓤
     ByValue1 = tripleOf 𝓤 H A (value-ended1 .signature) (closing 𝓤 H A value-ended1 by-value1)
 
-    said-of1 : (h : Keyboard) (y1 : B1 .base .Denot) (r : P .base .Denot) → ent 𝓤 (ensured 𝓤 H A value-ended1 by-value1 tt (h, (y1, tt)) tt r) (fact 𝓤 (r ≡ F h y1))
-    said-of1 h y1 r = exE 𝓤 _ (λ ws. snd∗ 𝓤 (sem 𝓤 H A (lasts value-ended1 tt (h, (y1, tt)) ws)) (fact 𝓤 (r ≡ F h y1)))
-
     module _ (W : Given 𝓤 H A) (κ : Lft) (q : Share) (b o : ℕ) (γ : GName) (h : Keyboard) (y1 : B1 .base .Denot) (is1 : Is (rowOf B1) y1 (B1 .val y1 ∷ [])) where
-      abbrev Arg1 : Type 0
-      Arg1 = RefT Keyboard × (B1 .base .Denot × Unit {0})
-
-      abbrev x1 : Arg1
+      abbrev x1 : Args (lent-ended1 .signature) (κ, tt)
       x1 = (record { ptr = (b, o); name = γ; now = h }, (y1, tt))
 
       abbrev at1 : List Val × (List Val × Unit {0})
@@ -212,7 +200,7 @@ module _ (S : Sort) (B1 : Sort) (P : Pair S) (f : Name) (F : Keyboard → B1 .ba
             move ! (1 ∷ []) $ use1 W (raw (ByValue1 .pre to-f1)) goes-f1 $
             calls-at ! fm ByValue1 known to-f1 (and-then ! (load ! (from ! (stop !)) (look ! 7 refl)) (and-then ! (load ! (from ! (stop !)) (look ! 11 refl)) (no-more !))) (λ v.
             use1 W (later (some (λ (r : P .base .Denot). (‵ ftrue ⊛ ‵ (pairOf P .own r (v ∷ []))) ⊛ raw (ensured 𝓤 H A value-ended1 by-value1 tt (h, (y1, tt)) tt r)))) (id⊢ 𝓤 _) $ await ! tt $ pick ! (λ r.
-            split ! $ move ! (1 ∷ []) $ use1 W (raw (fact 𝓤 (r ≡ F h y1))) (said-of1 h y1 r) $ heard ! (r ≡ F h y1) (λ e. split ! $ drop ! $
+            split ! $ move ! (1 ∷ []) $ use1 W (raw (fact 𝓤 (r ≡ F h y1))) (exE 𝓤 _ (λ ws. snd∗ 𝓤 (sem 𝓤 H A (lasts value-ended1 tt (h, (y1, tt)) ws)) (fact 𝓤 (r ≡ F h y1)))) $ heard ! (r ≡ F h y1) (λ e. split ! $ drop ! $
             peeks ! (pairOf P) (Is (pairOf P)) (shows 𝓤 H A (pairOf P)) r (v ∷ []) (λ is′.
             land ! (from ! (stop !)) (init ! 9 refl (P .typed M 𝓤 H A W r v is′ .0)) $
             rewrite ! 9 (λ (u : Val). ‵ (fat fullShare (pairTy P) l3 0 u)) (ap only (P .tells r _ is′)) refl $
@@ -266,14 +254,8 @@ module _ (S : Sort) (B1 : Sort) (B2 : Sort) (P : Pair S) (f : Name) (F : Keyboar
     abbrev pub ByValue2 : Contract 𝓤
     ByValue2 = tripleOf 𝓤 H A (value-ended2 .signature) (closing 𝓤 H A value-ended2 by-value2)
 
-    said-of2 : (h : Keyboard) (y1 : B1 .base .Denot) (y2 : B2 .base .Denot) (r : P .base .Denot) → ent 𝓤 (ensured 𝓤 H A value-ended2 by-value2 tt (h, (y1, (y2, tt))) tt r) (fact 𝓤 (r ≡ F h y1 y2))
-    said-of2 h y1 y2 r = exE 𝓤 _ (λ ws. snd∗ 𝓤 (sem 𝓤 H A (lasts value-ended2 tt (h, (y1, (y2, tt))) ws)) (fact 𝓤 (r ≡ F h y1 y2)))
-
     module _ (W : Given 𝓤 H A) (κ : Lft) (q : Share) (b o : ℕ) (γ : GName) (h : Keyboard) (y1 : B1 .base .Denot) (y2 : B2 .base .Denot) (is1 : Is (rowOf B1) y1 (B1 .val y1 ∷ [])) (is2 : Is (rowOf B2) y2 (B2 .val y2 ∷ [])) where
-      abbrev Arg2 : Type 0
-      Arg2 = RefT Keyboard × (B1 .base .Denot × (B2 .base .Denot × Unit {0}))
-
-      abbrev x2 : Arg2
+      abbrev x2 : Args (lent-ended2 .signature) (κ, tt)
       x2 = (record { ptr = (b, o); name = γ; now = h }, (y1, (y2, tt)))
 
       abbrev at2 : List Val × (List Val × (List Val × Unit {0}))
@@ -308,7 +290,7 @@ module _ (S : Sort) (B1 : Sort) (B2 : Sort) (P : Pair S) (f : Name) (F : Keyboar
             move ! (1 ∷ []) $ use1 W (raw (ByValue2 .pre to-f2)) goes-f2 $
             calls-at ! fm ByValue2 known to-f2 (and-then ! (load ! (from ! (stop !)) (look ! 7 refl)) (and-then ! (load ! (from ! (stop !)) (look ! 13 refl)) (and-then ! (load ! (from ! (stop !)) (look ! 11 refl)) (no-more !)))) (λ v.
             use1 W (later (some (λ (r : P .base .Denot). (‵ ftrue ⊛ ‵ (pairOf P .own r (v ∷ []))) ⊛ raw (ensured 𝓤 H A value-ended2 by-value2 tt (h, (y1, (y2, tt))) tt r)))) (id⊢ 𝓤 _) $ await ! tt $ pick ! (λ r.
-            split ! $ move ! (1 ∷ []) $ use1 W (raw (fact 𝓤 (r ≡ F h y1 y2))) (said-of2 h y1 y2 r) $ heard ! (r ≡ F h y1 y2) (λ e. split ! $ drop ! $
+            split ! $ move ! (1 ∷ []) $ use1 W (raw (fact 𝓤 (r ≡ F h y1 y2))) (exE 𝓤 _ (λ ws. snd∗ 𝓤 (sem 𝓤 H A (lasts value-ended2 tt (h, (y1, (y2, tt))) ws)) (fact 𝓤 (r ≡ F h y1 y2)))) $ heard ! (r ≡ F h y1 y2) (λ e. split ! $ drop ! $
             peeks ! (pairOf P) (Is (pairOf P)) (shows 𝓤 H A (pairOf P)) r (v ∷ []) (λ is′.
             land ! (from ! (stop !)) (init ! 9 refl (P .typed M 𝓤 H A W r v is′ .0)) $
             rewrite ! 9 (λ (u : Val). ‵ (fat fullShare (pairTy P) l4 0 u)) (ap only (P .tells r _ is′)) refl $
@@ -362,14 +344,8 @@ module _ (S : Sort) (B1 : Sort) (B2 : Sort) (P : Pair S) (f : Name) (F : Keyboar
     abbrev pub ByValues2 : Contract 𝓤
     ByValues2 = tripleOf 𝓤 H A (value-endeds2 .signature) (closing 𝓤 H A value-endeds2 by-values2)
 
-    said-ofs2 : (κ′ : Lft) (h : Keyboard) (y1 : B1 .base .Denot) (y2 : B2 .base .Denot) (z : RefT (List ℕ)) (r : P .base .Denot) → ent 𝓤 (ensured 𝓤 H A value-endeds2 by-values2 (κ′, tt) (h, (y1, (y2, (z, tt)))) tt r) (fact 𝓤 (r ≡ F h y1 y2 (now z)))
-    said-ofs2 κ′ h y1 y2 z r = exE 𝓤 _ (λ ws. snd∗ 𝓤 (sem 𝓤 H A (lasts value-endeds2 (κ′, tt) (h, (y1, (y2, (z, tt)))) ws)) (fact 𝓤 (r ≡ F h y1 y2 (now z))))
-
     module _ (W : Given 𝓤 H A) (κ κ′ : Lft) (q q′ : Share) (b o : ℕ) (γ : GName) (h : Keyboard) (y1 : B1 .base .Denot) (y2 : B2 .base .Denot) (z : RefT (List ℕ)) (is1 : Is (rowOf B1) y1 (B1 .val y1 ∷ [])) (is2 : Is (rowOf B2) y2 (B2 .val y2 ∷ [])) (isz : Is (ShrSlice (named 1) κ′ u8) z (slice-vals z)) where
-      abbrev Args2 : Type 0
-      Args2 = RefT Keyboard × (B1 .base .Denot × (B2 .base .Denot × (RefT (List ℕ) × Unit {0})))
-
-      abbrev xs2 : Args2
+      abbrev xs2 : Args (lent-endeds2 .signature) (κ, (κ′, tt))
       xs2 = (record { ptr = (b, o); name = γ; now = h }, (y1, (y2, (z, tt))))
 
       abbrev ats2 : List Val × (List Val × (List Val × (List Val × Unit {0})))
@@ -410,7 +386,7 @@ module _ (S : Sort) (B1 : Sort) (B2 : Sort) (P : Pair S) (f : Name) (F : Keyboar
             -- [pre; what the slice owns; the record's cell; the open borrow; obs; auth; the locals]
             calls-at ! fm ByValues2 known to-fs2 (and-then ! (load ! (from ! (stop !)) (look ! 6 refl)) (and-then ! (load ! (from ! (stop !)) (look ! 14 refl)) (and-then ! (load ! (from ! (stop !)) (look ! 12 refl)) (and-then ! (load ! (from ! (stop !)) (look ! 10 refl)) (no-more !))))) (λ v.
             use1 W (later (some (λ (r : P .base .Denot). ((‵ (flft κ′ q′) ⊛ ‵ ftrue) ⊛ ‵ (pairOf P .own r (v ∷ []))) ⊛ raw (ensured 𝓤 H A value-endeds2 by-values2 (κ′, tt) (h, (y1, (y2, (z, tt)))) tt r)))) (id⊢ 𝓤 _) $ await ! tt $ pick ! (λ r.
-            split ! $ move ! (1 ∷ []) $ use1 W (raw (fact 𝓤 (r ≡ F h y1 y2 (now z)))) (said-ofs2 κ′ h y1 y2 z r) $ heard ! (r ≡ F h y1 y2 (now z)) (λ e. split ! $ move ! (1 ∷ []) $
+            split ! $ move ! (1 ∷ []) $ use1 W (raw (fact 𝓤 (r ≡ F h y1 y2 (now z)))) (exE 𝓤 _ (λ ws. snd∗ 𝓤 (sem 𝓤 H A (lasts value-endeds2 (κ′, tt) (h, (y1, (y2, (z, tt)))) ws)) (fact 𝓤 (r ≡ F h y1 y2 (now z))))) $ heard ! (r ≡ F h y1 y2 (now z)) (λ e. split ! $ move ! (1 ∷ []) $
             peeks ! (pairOf P) (Is (pairOf P)) (shows 𝓤 H A (pairOf P)) r (v ∷ []) (λ is′.
             -- [what the answer owns; the slice's token; what the slice owns; the record's cell; the open borrow; obs; auth; the locals]
             land ! (from ! (stop !)) (init ! 9 refl (P .typed M 𝓤 H A W r v is′ .0)) $
