@@ -1,4 +1,4 @@
--- Laws of pictures: two places on, a scan laid into its places, the first places and the rest. Assumes nothing.
+-- Laws of pictures and their tests, of a scan put into its places, and of the three bytes of an event. Assumes nothing.
 use Prim.Native.Nat.{ℕ, suc, _+_, _-_, _<_, _≤_}
 use mathlib.Core.Bool.{Bool, true, false, _&&_}
 use mathlib.Core.List.{List, [], _∷_, _++_}
