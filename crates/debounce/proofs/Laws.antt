@@ -1,7 +1,8 @@
 -- Laws of pictures and their tests, of a scan put into its places, and of the three bytes of an event. Assumes nothing.
 use Prim.Native.Nat.{ℕ, suc, _+_, _-_, _<_, _≤_}
-use mathlib.Core.Bool.{Bool, true, false, _&&_}
+use mathlib.Core.Bool.{Bool, true, false, _&&_, and-true}
 use mathlib.Core.List.{List, [], _∷_, _++_}
+use mathlib.Core.Logic.{_⊎_, ⊎-elim}
 use mathlib.Core.Path.{_≡_, refl, sym, ap, _∙_}
 use native.Mathlib.Numerals.{add-one, add-two}
 use native.Mathlib.Omega.{arith}
@@ -10,8 +11,8 @@ use lib.Dec.{eqb, leb}
 use lib.ListN.{length, take, drop, getD, set, replicate, length-drop, take-append-drop}
 use lib.Seq.{take-all, take-suc, set-at, length-take-le, append-snoc, sets}
 use Rattle.lists.specs.Lists.{every}
-use Rattle.lists.proofs.Laws.{both-true, every-split}
-use Rattle.debounce.specs.Picture.{binary, unused, isPicture}
+use Rattle.lists.proofs.Laws.{both-true, every-split, every-replicate}
+use Rattle.debounce.specs.Picture.{padded, binary, unused, isPicture}
 use Rattle.debounce.specs.Inside.{atMost}
 use Rattle.event.specs.declared.Event.{Event}
 use Rattle.event.specs.declared.Event.the-variants.{Release, Press}
@@ -48,11 +49,27 @@ picture-binary n l e =
     ∙ sym (every-split binary (take n l) (drop n l)) ∙ ap (every binary) (take-append-drop n l)
 
 -- so many bytes of a scan, and zeros to the 128th place: one byte more
-pub pad-on : (scan : List ℕ) (i : ℕ) → i < length scan → length scan ≤ 128
+pub pad-on : (scan : List ℕ) (i : ℕ) → i < length scan → i < 128
     → set (take i scan ++ replicate (128 - i) 0) i (getD scan i 0) ≡ take (i + 1) scan ++ replicate (128 - (i + 1)) 0
 pad-on scan i h long =
     let room : 128 - i ≡ suc (128 - (i + 1)) = omega arith in
     rw (room, set-at (take i scan) 0 (replicate (128 - (i + 1)) 0) (getD scan i 0) i (length-take-le i scan (omega arith)), add-one, take-suc scan i 0, append-snoc)
+
+-- where it stops: at the end of the scan, or at the 128th place
+pub pad-done : (scan : List ℕ) (i : ℕ) → i ≤ length scan → i ≤ 128 → (length scan ≤ i) ⊎ (128 ≤ i) → take i scan ++ replicate (128 - i) 0 ≡ padded (take 128 scan)
+pad-done scan i short low end =
+    let all : take i scan ≡ take 128 scan = ⊎-elim (λ h. take-all i scan h ∙ sym (take-all 128 scan (omega arith))) (λ h. let e : i ≡ 128 = omega arith in rw e) end in
+    let long : i ≡ length (take 128 scan) = sym (length-take-le i scan short) ∙ ap length all in
+    ap (λ l. l ++ replicate (128 - i) 0) all ∙ ap (λ k. take 128 scan ++ replicate (128 - k) 0) long
+
+-- a scan that fits has all its bytes in its places, and the rest of them are 0
+pub pad-fits : (scan : List ℕ) → length scan ≤ 128 → padded (take 128 scan) ≡ padded scan
+pad-fits scan h = ap padded (take-all 128 scan h)
+
+pub pad-binary : (scan : List ℕ) → every binary (padded scan) ≡ every binary scan
+pad-binary scan =
+    every-split binary scan (replicate (128 - length scan) 0)
+    ∙ rw (every-replicate binary (128 - length scan) 0 refl) (and-true (every binary scan))
 
 -- three bytes written one after the other are an event's bytes written
 pub three-set : (e : Event) (l : List ℕ) (at : ℕ)

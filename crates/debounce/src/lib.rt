@@ -143,20 +143,6 @@ fn are_at_most(places: &[u8], most: u8) -> bool
     good
 }
 
-// Once the places past n are 0, all 128 tell of the first n, and a fixed number of places is looked at sooner.
-fn is_picture(places: [u8; 128], n: usize) -> bool
-    requires { ⌜ n ≤ 128 ⌝ }
-    ensures { λ r. ⌜ r ≡ isPicture n places ⌝ }
-{
-    are_at_most(&places[n..], 0) && are_at_most(&places, 1)
-}
-
-fn is_scan(scan: &[u8], n: usize) -> bool
-    ensures { λ r. ⌜ r ≡ isScan n (now (scan .entry)) ⌝ }
-{
-    scan.len() == n && are_at_most(scan, 1)
-}
-
 fn are_alike(a: &[u8], b: &[u8]) -> bool
     requires { ⌜ length (now a) ≡ length (now b) ⌝ }
     ensures { λ r. ⌜ r ≡ alike (now (a .entry)) (now (b .entry)) ⌝ }
@@ -172,18 +158,33 @@ fn are_alike(a: &[u8], b: &[u8]) -> bool
     good
 }
 
-// A scan in its 128 places.
+// A scan in its 128 places; what is past them is left out.
 fn pad(scan: &[u8]) -> [u8; 128]
-    requires { ⌜ length (now scan) ≤ 128 ⌝ }
-    ensures { λ r. ⌜ r ≡ padded (now (scan .entry)) ⌝ }
+    ensures { λ r. ⌜ r ≡ padded (take 128 (now (scan .entry))) ⌝ }
 {
     let mut places = [0u8; 128];
     let mut i = 0;
-    while i < scan.len() {
+    while i < scan.len() && i < 128 {
         places[i] = scan[i];
         i += 1;
     }
     places
+}
+
+// Once the places past n are 0, all 128 tell of the first n. A fixed number of places takes fewer steps than n do.
+fn is_picture(places: [u8; 128], n: usize) -> bool
+    requires { ⌜ n ≤ 128 ⌝ }
+    ensures { λ r. ⌜ r ≡ isPicture n places ⌝ }
+{
+    are_at_most(&places[n..], 0) && are_at_most(&places, 1)
+}
+
+// Told by the scan's places, for the same reason.
+fn is_scan(scan: &[u8], places: [u8; 128], n: usize) -> bool
+    requires { ⌜ (n ≤ 128) × (places ≡ padded (take 128 (now scan))) ⌝ }
+    ensures { λ r. ⌜ r ≡ isScan n (now (scan .entry)) ⌝ }
+{
+    scan.len() == n && are_at_most(&places, 1)
 }
 
 fn sizes_good(rows: usize, columns: usize) -> bool
@@ -269,13 +270,20 @@ fn tell_step(step: Step, out: &mut [u8]) -> usize
     tell(before, after, n, debouncer.columns, out)
 }
 
-fn making_verdict(rows: usize, columns: usize, nb_bounce: u16, start: &[u8]) -> Verdict
+fn making_verdict(
+    rows: usize,
+    columns: usize,
+    nb_bounce: u16,
+    start: &[u8],
+    places: [u8; 128],
+) -> Verdict
+    requires { ⌜ places ≡ padded (take 128 (now start)) ⌝ }
     ensures { λ r. ⌜ r ≡ makingVerdict rows columns «nb_bounce» (now (start .entry)) ⌝ }
 {
     if !bounce_good(rows, columns, nb_bounce) {
         return Verdict::Refused(Refusal::Bounce);
     }
-    if !is_scan(start, rows * columns) {
+    if !is_scan(start, places, rows * columns) {
         return Verdict::Refused(Refusal::Scan);
     }
     Verdict::Fine
@@ -348,22 +356,24 @@ impl Debouncer {
         is_picture(cur, n) && is_picture(new, n)
     }
 
-    fn update_verdict(self, scan: &[u8]) -> Verdict
+    fn update_verdict(self, scan: &[u8], places: [u8; 128]) -> Verdict
+        requires { ⌜ places ≡ padded (take 128 (now scan)) ⌝ }
         ensures { λ r. ⌜ r ≡ updateVerdict self (now (scan .entry)) ⌝ }
     {
         if !self.state_good() {
             return Verdict::Refused(Refusal::State);
         }
-        if !is_scan(scan, self.rows * self.columns) {
+        if !is_scan(scan, places, self.rows * self.columns) {
             return Verdict::Refused(Refusal::Scan);
         }
         Verdict::Fine
     }
 
-    fn events_verdict(self, scan: &[u8], room: usize) -> Verdict
+    fn events_verdict(self, scan: &[u8], places: [u8; 128], room: usize) -> Verdict
+        requires { ⌜ places ≡ padded (take 128 (now scan)) ⌝ }
         ensures { λ r. ⌜ r ≡ eventsVerdict self (now (scan .entry)) room ⌝ }
     {
-        let verdict = self.update_verdict(scan);
+        let verdict = self.update_verdict(scan, places);
         match verdict {
             Verdict::Fine => {
                 if room < 3 * (self.rows * self.columns) {
@@ -379,22 +389,20 @@ impl Debouncer {
     pub fn new(rows: usize, columns: usize, nb_bounce: u16, start: &[u8]) -> Made
         ensures { λ r. ⌜ r ≡ made (makingVerdict rows columns «nb_bounce» (now (start .entry))) rows columns «nb_bounce» (now (start .entry)) ⌝ }
     {
-        let verdict = making_verdict(rows, columns, nb_bounce, start);
+        let places = pad(start);
+        let verdict = making_verdict(rows, columns, nb_bounce, start, places);
         match verdict {
-            Verdict::Fine => {
-                let picture = pad(start);
-                Made {
-                    verdict: Verdict::Fine,
-                    debouncer: Debouncer {
-                        cur: picture,
-                        new: picture,
-                        since: 0,
-                        nb_bounce,
-                        rows,
-                        columns,
-                    },
-                }
-            }
+            Verdict::Fine => Made {
+                verdict: Verdict::Fine,
+                debouncer: Debouncer {
+                    cur: places,
+                    new: places,
+                    since: 0,
+                    nb_bounce,
+                    rows,
+                    columns,
+                },
+            },
             Verdict::Refused(refusal) => Made {
                 verdict: Verdict::Refused(refusal),
                 debouncer: Debouncer {
@@ -430,10 +438,11 @@ impl Debouncer {
     pub fn update(self, scan: &[u8]) -> Updated
         ensures { λ r. ⌜ r ≡ updated (updateVerdict self (now (scan .entry))) self (now (scan .entry)) ⌝ }
     {
-        let verdict = self.update_verdict(scan);
+        let places = pad(scan);
+        let verdict = self.update_verdict(scan, places);
         match verdict {
             Verdict::Fine => {
-                let step = self.step(pad(scan));
+                let step = self.step(places);
                 let debouncer = step.debouncer;
                 Updated {
                     update: Update::Changed(step.changed),
@@ -451,10 +460,11 @@ impl Debouncer {
     pub fn events(self, scan: &[u8], out: &mut [u8]) -> Told
         ensures { λ r. ⌜ (r ≡ told (eventsVerdict self (now (scan .entry)) (length (now (out .entry)))) self (now (scan .entry))) × (now (out .exit) ≡ buffered (eventsVerdict self (now (scan .entry)) (length (now (out .entry)))) self (now (scan .entry)) (now (out .entry))) ⌝ }
     {
-        let verdict = self.events_verdict(scan, out.len());
+        let places = pad(scan);
+        let verdict = self.events_verdict(scan, places, out.len());
         match verdict {
             Verdict::Fine => {
-                let step = self.step(pad(scan));
+                let step = self.step(places);
                 let debouncer = step.debouncer;
                 let count = tell_step(step, out);
                 Told {

@@ -1,16 +1,24 @@
 -- `debounce::is_scan` meets its contract. Assumes nothing.
 use borrow.Author.Needs.{needs}
+use mathlib.Core.Path.{ap, _∙_}
 use borrow.Author.Tests.{eq-eqb, ne-eqb}
 use lib.ListN.{length}
-use Rattle.debounce.specs.Picture.{isScan}
+use native.Mathlib.Omega.{arith}
+use Rattle.lists.specs.Lists.{every}
+use Rattle.debounce.specs.Picture.{binary, isScan}
+use Rattle.debounce.proofs.Laws.{pad-fits, pad-binary}
 use Rattle.debounce.proofs.is_scan.Statement.{statement}
 use Rattle.debounce.proofs.is_scan.Tie as tie
 
 returns : tie.Need-returns
 unfolding isScan
 returns c =
-    let a = c .before .before .before .args in
-    rw (eq-eqb (length (a .scan .now)) (a .n) (c .before .if1 .taken)) (c .are-at-most .ensures)
+    let equal = c .before .before in
+    let start = equal .before .before in
+    let scan = start .args .scan .now in
+    let long = equal .if1 .taken in
+    rw (eq-eqb (length scan) (start .args .n) long)
+    (c .are-at-most .ensures ∙ ap (every binary) (start .pre .1 ∙ pad-fits scan (omega (arith, start .pre .0))) ∙ pad-binary scan)
 
 returns-2 : tie.Need-returns-2
 unfolding isScan
@@ -20,6 +28,7 @@ pub is-scan-spec : {M : Type 1} → statement M
 is-scan-spec =
     tie.close
     (tie.spec
+    (λ c. search needs)
     (λ c κs. search needs)
     returns
     returns-2)

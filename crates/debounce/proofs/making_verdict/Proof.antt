@@ -25,6 +25,9 @@ returns c = rw (sym (c .before .bounce-good .ensures) ∙ not-true _ (c .if1 .ta
 mul-is-scan : tie.Need-mul-is-scan
 mul-is-scan c = omega (arith, sized _ _ _ (good c) .few)
 
+is-scan-requires : tie.Need-is-scan-requires
+is-scan-requires c κs = (sized _ _ _ (good c) .few, c .before .before .before .pre)
+
 returns-2 : tie.Need-returns-2
 unfolding makingVerdict rule
 returns-2 c = rw (good (c .before .before), sym (c .before .is-scan .ensures) ∙ not-true _ (c .if2 .taken))
@@ -40,6 +43,6 @@ making-verdict-spec =
     (λ c κs. search needs)
     returns
     mul-is-scan
-    (λ c κs. search needs)
+    is-scan-requires
     returns-2
     returns-3)

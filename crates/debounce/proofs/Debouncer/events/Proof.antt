@@ -2,8 +2,10 @@
 use borrow.Author.Needs.{needs}
 use mathlib.Core.Path.{_≡_, refl, sym, _∙_}
 use lib.ListN.{length}
+use Rattle.debounce.specs.Picture.{padded}
 use Rattle.debounce.specs.Calls.{eventsVerdict, told, eventsOf, buffered}
 use Rattle.debounce.specs.declared.Verdict.the-variants.{Fine}
+use Rattle.debounce.proofs.Laws.{pad-fits}
 use Rattle.debounce.proofs.States.{events-fine}
 use Rattle.debounce.proofs.pad.Reads as pad
 use Rattle.debounce.proofs.tell_step.Reads as tell-step
@@ -15,20 +17,24 @@ use Rattle.debounce.proofs.Debouncer.events.Statement.{statement}
 use Rattle.debounce.proofs.Debouncer.events.Tie as tie
 
 -- where it is not refused
-fine : (c : lts.After-enum-told (events-verdict.Asked, events-verdict.Learnt, pad.Asked, pad.Learnt, step.Asked, step.Learnt, tell-step.Asked, tell-step.Learnt) reads.Pre reads.Post)
-    → let a = c .before .before .before .before .before .args in eventsVerdict (a .self) (a .scan .now) (length (a .out .now)) ≡ Fine
+abbrev Taken : Type 0
+Taken = lts.After-enum-told (pad.Asked, pad.Learnt, events-verdict.Asked, events-verdict.Learnt, step.Asked, step.Learnt, tell-step.Asked, tell-step.Learnt) reads.Pre reads.Post
+
+fine : (c : Taken) → let a = c .before .before .before .before .before .before .args in eventsVerdict (a .self) (a .scan .now) (length (a .out .now)) ≡ Fine
 fine c = sym (c .before .before .events-verdict .ensures) ∙ c .enum-told .given .1
 
-pad-requires : tie.Need-pad-requires
-pad-requires c κs = events-fine _ _ _ (fine c) .0 .scan-fits
+whole : (c : Taken) → let put = c .before .before .before in put .pad .result ≡ padded (put .before .before .before .args .scan .now)
+whole c =
+    let put = c .before .before .before in
+    put .pad .ensures ∙ pad-fits (put .before .before .before .args .scan .now) (events-fine _ _ _ (fine c) .0 .scan-fits)
 
 step-requires : tie.Need-step-requires
-step-requires c κs = events-fine _ _ _ (fine (c .before)) .0 .since-low
+step-requires c κs = events-fine _ _ _ (fine c) .0 .since-low
 
 tell-step-requires : tie.Need-tell-step-requires
 tell-step-requires c κs =
     let stepped = c .before .before in
-    let f = events-fine _ _ _ (fine (stepped .before .before)) in
+    let f = events-fine _ _ _ (fine (stepped .before)) in
     let sizes = f .0 .sizes in
     rw (stepped .step .ensures) (sizes .some-columns, sizes .few-columns, sizes .few, f .1)
 
@@ -38,8 +44,8 @@ returns c =
     let counted = c .before .before in
     let stepped = counted .before .before .before in
     let ens = counted .tell-step .ensures in
-    let put = stepped .before in
-    rw (fine (put .before)) (rw (ens .0, stepped .step .ensures, put .pad .ensures), ens .1 ∙ rw (stepped .step .ensures, put .pad .ensures))
+    let fits = whole (stepped .before) in
+    rw (fine (stepped .before)) (rw (ens .0, stepped .step .ensures, fits), ens .1 ∙ rw (stepped .step .ensures, fits))
 
 returns-2 : tie.Need-returns-2
 unfolding told eventsOf buffered
@@ -50,8 +56,8 @@ events-spec =
     tie.close
     (tie.spec
     (λ c κs. search needs)
+    (λ c κs. search needs)
     (λ c. search needs)
-    pad-requires
     step-requires
     tell-step-requires
     (λ c. search needs)

@@ -2,16 +2,18 @@
 use borrow.Author.Needs.{needs}
 use mathlib.Core.Path.{sym, _∙_}
 use Rattle.debounce.specs.Calls.{made}
+use Rattle.debounce.proofs.Laws.{pad-fits}
 use Rattle.debounce.proofs.States.{making-fine}
 use Rattle.debounce.proofs.Debouncer.new.Statement.{statement}
 use Rattle.debounce.proofs.Debouncer.new.Tie as tie
 
-pad-requires : tie.Need-pad-requires
-pad-requires c κs = making-fine _ _ _ _ (sym (c .before .before .making-verdict .ensures) ∙ c .enum-told .given .1)
-
 returns : tie.Need-returns
 unfolding made
-returns c = rw (sym (c .before .before .before .making-verdict .ensures) ∙ c .before .enum-told .given .1, c .pad .ensures)
+returns c =
+    let judged = c .before .before in
+    let fine = sym (judged .making-verdict .ensures) ∙ c .enum-told .given .1 in
+    let put = judged .before in
+    rw (fine, put .pad .ensures ∙ pad-fits (put .before .before .args .start .now) (making-fine _ _ _ _ fine))
 
 returns-2 : tie.Need-returns-2
 unfolding made
@@ -22,8 +24,8 @@ new-spec =
     tie.close
     (tie.spec
     (λ c κs. search needs)
+    (λ c κs. search needs)
     (λ c. search needs)
-    pad-requires
     (λ c. search needs)
     returns
     returns-2)

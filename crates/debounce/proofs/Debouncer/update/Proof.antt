@@ -1,8 +1,10 @@
 -- `debounce::Debouncer::update` meets its contract, in each case of the verdict. Assumes nothing.
 use borrow.Author.Needs.{needs}
 use mathlib.Core.Path.{_≡_, sym, _∙_}
+use Rattle.debounce.specs.Picture.{padded}
 use Rattle.debounce.specs.Calls.{updateVerdict, updated}
 use Rattle.debounce.specs.declared.Verdict.the-variants.{Fine}
+use Rattle.debounce.proofs.Laws.{pad-fits}
 use Rattle.debounce.proofs.States.{update-fine}
 use Rattle.debounce.proofs.pad.Reads as pad
 use Rattle.debounce.proofs.Debouncer.step.Reads as step
@@ -13,21 +15,25 @@ use Rattle.debounce.proofs.Debouncer.update.Statement.{statement}
 use Rattle.debounce.proofs.Debouncer.update.Tie as tie
 
 -- where it is not refused
-fine : (c : lts.After-enum-told (update-verdict.Asked, update-verdict.Learnt, pad.Asked, pad.Learnt, step.Asked, step.Learnt) reads.Pre reads.Post)
-    → let a = c .before .before .before .before .args in updateVerdict (a .self) (a .scan .now) ≡ Fine
+abbrev Taken : Type 0
+Taken = lts.After-enum-told (pad.Asked, pad.Learnt, update-verdict.Asked, update-verdict.Learnt, step.Asked, step.Learnt) reads.Pre reads.Post
+
+fine : (c : Taken) → let a = c .before .before .before .before .before .args in updateVerdict (a .self) (a .scan .now) ≡ Fine
 fine c = sym (c .before .before .update-verdict .ensures) ∙ c .enum-told .given .1
 
-pad-requires : tie.Need-pad-requires
-pad-requires c κs = update-fine _ _ (fine c) .scan-fits
+whole : (c : Taken) → let put = c .before .before .before in put .pad .result ≡ padded (put .before .before .args .scan .now)
+whole c =
+    let put = c .before .before .before in
+    put .pad .ensures ∙ pad-fits (put .before .before .args .scan .now) (update-fine _ _ (fine c) .scan-fits)
 
 step-requires : tie.Need-step-requires
-step-requires c κs = update-fine _ _ (fine (c .before)) .since-low
+step-requires c κs = update-fine _ _ (fine c) .since-low
 
 returns : tie.Need-returns
 unfolding updated
 returns c =
     let stepped = c .before in
-    rw (fine (stepped .before .before), stepped .step .ensures, stepped .before .pad .ensures)
+    rw (fine (stepped .before), stepped .step .ensures, whole (stepped .before))
 
 returns-2 : tie.Need-returns-2
 unfolding updated
@@ -38,8 +44,8 @@ update-spec =
     tie.close
     (tie.spec
     (λ c κs. search needs)
+    (λ c κs. search needs)
     (λ c. search needs)
-    pad-requires
     step-requires
     (λ c. search needs)
     returns

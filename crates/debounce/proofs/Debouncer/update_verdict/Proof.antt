@@ -24,6 +24,9 @@ returns c = rw (sym (c .before .state-good .ensures) ∙ not-true _ (c .if1 .tak
 mul-is-scan : tie.Need-mul-is-scan
 mul-is-scan c = omega (arith, legal-sized _ (good (c .before)) .few)
 
+is-scan-requires : tie.Need-is-scan-requires
+is-scan-requires c κs = (legal-sized _ (good (c .before)) .few, c .before .before .before .before .pre)
+
 returns-2 : tie.Need-returns-2
 unfolding updateVerdict rule
 returns-2 c = rw (good (c .before .before .before), sym (c .before .is-scan .ensures) ∙ not-true _ (c .if2 .taken))
@@ -39,6 +42,6 @@ update-verdict-spec =
     (λ c κs. search needs)
     returns
     mul-is-scan
-    (λ c κs. search needs)
+    is-scan-requires
     returns-2
     returns-3)
