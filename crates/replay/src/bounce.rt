@@ -1,123 +1,55 @@
-// The lines of the debouncer: `debounce`, `debouncer`, `scan`, `update`, `picture`, `space`. Assumes nothing.
-use super::desk;
-use super::lent;
-use super::lent::FILL;
-use super::out;
+// The lines of the debouncer: `debounce`, `debouncer`, `scan`, `update`, `picture`. Assumes nothing.
+use super::commands::Bounce;
+use super::say;
+use super::say::FILL;
 use super::words;
-use super::words::Bytes;
 use super::words::Words;
 use debounce::Debouncer;
 use debounce::Telling;
 use debounce::Update;
 use debounce::Verdict;
 use refusal::Refusal;
+use talk::Text;
+use talk::front;
 
-// The 128 places of a picture.
-fn picture_in(desk: &[u16], at: usize) -> [u8; 128] {
-    let mut all = [0u8; 128];
-    let mut k: usize = 0;
-    while k < 128 {
-        all[k] = desk::byte(desk, desk::on(at, k));
-        k += 1;
-    }
-    all
-}
-
-fn store_picture(all: [u8; 128], desk: &mut [u16], at: usize) {
-    let mut k: usize = 0;
-    while k < 128 {
-        desk::set(desk, desk::on(at, k), words::wide(all[k]));
-        k += 1;
-    }
-}
-
-fn load(desk: &[u16]) -> Debouncer {
-    Debouncer {
-        cur: picture_in(desk, desk::ACCEPTED),
-        new: picture_in(desk, desk::CANDIDATE),
-        since: desk::get(desk, desk::DEBOUNCER + 3),
-        nb_bounce: desk::get(desk, desk::DEBOUNCER + 2),
-        rows: desk::number(desk, desk::DEBOUNCER),
-        columns: desk::number(desk, desk::DEBOUNCER + 1),
-    }
-}
-
-pub fn store(debouncer: Debouncer, desk: &mut [u16]) {
-    let cur = debouncer.cur;
-    let new = debouncer.new;
-    let since = debouncer.since as usize;
-    let nb_bounce = debouncer.nb_bounce as usize;
-    desk::set_four(
-        desk,
-        desk::DEBOUNCER,
-        [debouncer.rows, debouncer.columns, nb_bounce, since],
-    );
-    store_picture(cur, desk, desk::ACCEPTED);
-    store_picture(new, desk, desk::CANDIDATE);
+pub struct Done {
+    pub debouncer: Debouncer,
+    pub text: Text,
 }
 
 // Before the first line: all up, 1 by 1, which is what a refused making gives.
-pub fn start(desk: &mut [u16]) {
+pub fn start() -> Debouncer {
     let made = Debouncer::new(0, 0, 0, b"");
-    let debouncer = made.debouncer;
-    store(debouncer, desk);
+    made.debouncer
 }
 
-fn refused(out: &mut [u8], waiting: usize, refusal: Refusal) -> usize {
-    let at = out::put_all(out, waiting, b"refused ");
-    out::put_number(out, at, words::wide(refusal.number()))
-}
-
-// Whether each word from 1 on, and before `end`, is a number.
-fn are_numbers(line: &[u8], w: Words, end: usize) -> bool {
-    let mut k = 1;
-    while k < end {
-        if 65535 < words::number_at(line, w, k) {
-            return false;
-        }
-        k += 1;
+fn unread(debouncer: Debouncer) -> Done {
+    Done {
+        debouncer,
+        text: say::unread(),
     }
-    true
 }
 
-fn made(
-    line: &[u8],
-    w: Words,
-    start: &[u8],
-    desk: &mut [u16],
-    out: &mut [u8],
-    waiting: usize,
-) -> usize {
-    let nb = (words::number_at(line, w, 3) % 65536) as u16;
-    let made = Debouncer::new(
-        words::number_at(line, w, 1),
-        words::number_at(line, w, 2),
-        nb,
-        start,
-    );
-    let verdict = made.verdict;
-    let debouncer = made.debouncer;
-    store(debouncer, desk);
-    let at = out::put_all(out, waiting, b"made ");
-    out::put_number(out, at, words::wide(verdict.number()))
+fn refused(refusal: Refusal) -> Text {
+    say::number(b"refused ", words::wide(refusal.number()))
 }
 
 // `debounce R C NB PICTURE`
-pub fn debounce(
-    line: &[u8],
-    w: Words,
-    scratch: &mut [u8],
-    desk: &mut [u16],
-    out: &mut [u8],
-    waiting: usize,
-) -> usize {
-    let Bytes::Count(n) = words::read_picture(words::word(line, w, 4), scratch) else {
-        return out::unread(out, waiting);
-    };
-    if !are_numbers(line, w, 4) {
-        return out::unread(out, waiting);
+fn make(line: &[u8], w: Words, debouncer: Debouncer) -> Done {
+    let got = words::read_picture(words::word(line, w, 4));
+    let numbers = words::read_numbers(line, w, b"nnn");
+    if !got.read || !numbers.read {
+        return unread(debouncer);
     }
-    made(line, w, words::first(scratch, n), desk, out, waiting)
+    let of = numbers.of;
+    let bytes = got.bytes;
+    let made = Debouncer::new(of[1], of[2], words::low_word(of[3]), front(&bytes, got.len));
+    let verdict = made.verdict;
+    let after = made.debouncer;
+    Done {
+        debouncer: after,
+        text: say::number(b"made ", words::wide(verdict.number())),
+    }
 }
 
 // So many bytes in 128 places, and zeros.
@@ -137,166 +69,151 @@ struct Places {
     places: [u8; 128],
 }
 
-fn picture_at(line: &[u8], w: Words, k: usize, scratch: &mut [u8]) -> Places {
-    let Bytes::Count(n) = words::read_picture(words::word(line, w, k), scratch) else {
-        return Places {
-            read: false,
-            places: [0; 128],
-        };
-    };
+fn picture_at(line: &[u8], w: Words, k: usize) -> Places {
+    let got = words::read_picture(words::word(line, w, k));
+    let bytes = got.bytes;
     Places {
-        read: n <= 128,
-        places: laid(words::first(scratch, n)),
+        read: got.read && got.len <= 128,
+        places: laid(front(&bytes, got.len)),
     }
-}
-
-// The debouncer's four numbers, as the line has them.
-fn set_numbers(line: &[u8], w: Words, desk: &mut [u16]) {
-    desk::set_four(
-        desk,
-        desk::DEBOUNCER,
-        [
-            words::number_at(line, w, 1),
-            words::number_at(line, w, 2),
-            words::number_at(line, w, 3),
-            words::number_at(line, w, 4),
-        ],
-    )
 }
 
 // `debouncer R C NB SINCE CUR NEW`: the debouncer as it stands, legal or not.
-pub fn debouncer(
-    line: &[u8],
-    w: Words,
-    scratch: &mut [u8],
-    desk: &mut [u16],
-    out: &mut [u8],
-    waiting: usize,
-) -> usize {
-    let accepted = picture_at(line, w, 5, scratch);
-    let candidate = picture_at(line, w, 6, scratch);
-    if !accepted.read {
-        return out::unread(out, waiting);
+fn set(line: &[u8], w: Words, debouncer: Debouncer) -> Done {
+    let accepted = picture_at(line, w, 5);
+    let candidate = picture_at(line, w, 6);
+    let numbers = words::read_numbers(line, w, b"nnnn");
+    if !accepted.read || !candidate.read {
+        return unread(debouncer);
     }
-    if !candidate.read {
-        return out::unread(out, waiting);
+    if !numbers.read {
+        return unread(debouncer);
     }
-    if !are_numbers(line, w, 5) {
-        return out::unread(out, waiting);
-    }
+    let of = numbers.of;
     let cur = accepted.places;
     let new = candidate.places;
-    set_numbers(line, w, desk);
-    store_picture(cur, desk, desk::ACCEPTED);
-    store_picture(new, desk, desk::CANDIDATE);
-    out::put_all(out, waiting, line)
+    Done {
+        debouncer: Debouncer {
+            cur,
+            new,
+            since: words::low_word(of[4]),
+            nb_bounce: words::low_word(of[3]),
+            rows: of[1],
+            columns: of[2],
+        },
+        text: say::text(line),
+    }
 }
 
-fn updated(scan: &[u8], desk: &mut [u16], out: &mut [u8], waiting: usize) -> usize {
-    let debouncer = load(desk);
-    let updated = debouncer.update(scan);
-    let after = updated.debouncer;
-    store(after, desk);
-    let answer = updated.update;
-    match answer {
-        Update::Changed(yes) => {
-            let at = out::put_all(out, waiting, b"changed ");
-            out::put(out, at, words::flag(yes))
-        }
-        Update::Refused(refusal) => refused(out, waiting, refusal),
+fn updated(update: Update) -> Text {
+    match update {
+        Update::Changed(yes) => say::flag(b"changed ", yes),
+        Update::Refused(refusal) => refused(refusal),
     }
 }
 
 // `update PICTURE`: whether the accepted picture changed.
-pub fn update(
-    line: &[u8],
-    w: Words,
-    scratch: &mut [u8],
-    desk: &mut [u16],
-    out: &mut [u8],
-    waiting: usize,
-) -> usize {
-    let Bytes::Count(n) = words::read_picture(words::word(line, w, 1), scratch) else {
-        return out::unread(out, waiting);
-    };
-    updated(words::first(scratch, n), desk, out, waiting)
+fn update(line: &[u8], w: Words, debouncer: Debouncer) -> Done {
+    let got = words::read_picture(words::word(line, w, 1));
+    if !got.read {
+        return unread(debouncer);
+    }
+    let bytes = got.bytes;
+    let done = debouncer.update(front(&bytes, got.len));
+    let after = done.debouncer;
+    let answer = done.update;
+    Done {
+        debouncer: after,
+        text: updated(answer),
+    }
+}
+
+// A digit a place.
+fn digits(places: [u8; 128]) -> Text {
+    let mut text = say::text(b"picture ");
+    let mut k = 0;
+    while k < 128 {
+        text = text.put_number(words::wide(places[k]));
+        k += 1;
+    }
+    text
 }
 
 // `picture`: the 128 places of the accepted picture.
-pub fn picture(desk: &[u16], out: &mut [u8], waiting: usize) -> usize {
-    let debouncer = load(desk);
+fn picture(debouncer: Debouncer) -> Text {
     let got = debouncer.get();
     let verdict = got.verdict;
     let places = got.picture;
     match verdict {
-        Verdict::Fine => {
-            let at = out::put_all(out, waiting, b"picture ");
-            out::put_digits(out, at, &places)
-        }
-        Verdict::Refused(refusal) => refused(out, waiting, refusal),
+        Verdict::Fine => digits(places),
+        Verdict::Refused(refusal) => refused(refusal),
     }
 }
 
 // The bytes of so many events in hex; `spilt` where a byte past them was written.
-fn put_events(events: &[u8], count: usize, out: &mut [u8], waiting: usize) -> usize {
-    if 128 < count {
-        return out::put_all(out, waiting, b"spilt");
+fn told(telling: Telling, events: &[u8]) -> Text {
+    let count = written(telling);
+    if !say::is_filled(events, count) {
+        return say::text(b"spilt");
     }
-    if !lent::is_filled(words::after(events, 3 * count)) {
-        return out::put_all(out, waiting, b"spilt");
+    match telling {
+        Telling::Events(_) => say::hex(say::text(b"events "), front(events, count)),
+        Telling::Refused(refusal) => refused(refusal),
     }
-    let at = out::put_all(out, waiting, b"events ");
-    out::put_bytes(out, at, words::first(events, 3 * count))
 }
 
-// A refusal, `spilt` where a byte was written.
-fn put_refused(events: &[u8], refusal: Refusal, out: &mut [u8], waiting: usize) -> usize {
-    if !lent::is_filled(events) {
-        return out::put_all(out, waiting, b"spilt");
+// How many bytes a scan may write: three an event, and none where it is refused. No picture has more than 128 events.
+fn written(telling: Telling) -> usize {
+    match telling {
+        Telling::Events(count) => {
+            if count <= 128 {
+                return 3 * count;
+            }
+            0
+        }
+        Telling::Refused(_) => 0,
     }
-    refused(out, waiting, refusal)
 }
 
 // A scan into a lent buffer, and the answer.
-fn scanned(
-    scan: &[u8],
-    events: &mut [u8],
-    desk: &mut [u16],
-    out: &mut [u8],
-    waiting: usize,
-) -> usize {
-    let debouncer = load(desk);
-    let told = debouncer.events(scan, events);
-    let after = told.debouncer;
-    store(after, desk);
-    let telling = told.telling;
-    match telling {
-        Telling::Events(count) => put_events(events, count, out, waiting),
-        Telling::Refused(refusal) => put_refused(events, refusal, out, waiting),
+fn scanned(scan: &[u8], events: &mut [u8], debouncer: Debouncer) -> Done {
+    let done = debouncer.events(scan, events);
+    let after = done.debouncer;
+    let telling = done.telling;
+    Done {
+        debouncer: after,
+        text: told(telling, events),
     }
 }
 
 // A scan into a buffer of as many bytes as there is space. More than 1,024 is as good as 1,024: no picture has so many events.
-fn scan_into(scan: &[u8], desk: &mut [u16], out: &mut [u8], waiting: usize) -> usize {
+fn scan_into(scan: &[u8], space: usize, debouncer: Debouncer) -> Done {
     let mut buffer = [FILL; 1024];
-    let space = desk::number(desk, desk::SPACE);
     if space <= 1024 {
-        return scanned(scan, &mut buffer[..space], desk, out, waiting);
+        return scanned(scan, &mut buffer[..space], debouncer);
     }
-    scanned(scan, &mut buffer, desk, out, waiting)
+    scanned(scan, &mut buffer, debouncer)
 }
 
 // `scan PICTURE`: the events, three bytes each.
-pub fn scan(
-    line: &[u8],
-    w: Words,
-    scratch: &mut [u8],
-    desk: &mut [u16],
-    out: &mut [u8],
-    waiting: usize,
-) -> usize {
-    let Bytes::Count(n) = words::read_picture(words::word(line, w, 1), scratch) else {
-        return out::unread(out, waiting);
-    };
-    scan_into(words::first(scratch, n), desk, out, waiting)
+fn scan(line: &[u8], w: Words, space: usize, debouncer: Debouncer) -> Done {
+    let got = words::read_picture(words::word(line, w, 1));
+    if !got.read {
+        return unread(debouncer);
+    }
+    let bytes = got.bytes;
+    scan_into(front(&bytes, got.len), space, debouncer)
+}
+
+pub fn answer(asked: Bounce, line: &[u8], w: Words, space: usize, debouncer: Debouncer) -> Done {
+    match asked {
+        Bounce::Make => make(line, w, debouncer),
+        Bounce::Set => set(line, w, debouncer),
+        Bounce::Scan => scan(line, w, space, debouncer),
+        Bounce::Update => update(line, w, debouncer),
+        Bounce::Picture => Done {
+            debouncer,
+            text: picture(debouncer),
+        },
+    }
 }

@@ -1,360 +1,233 @@
 // The test driver: reads a script from standard input, a command a line, and writes an answer a line, `?` for a line that
 // it cannot read. docs/REPLAY.md has the lines. `oracle replay` answers the same lines from the Rust, and the two are compared.
-// Assumes nothing.
+// Everything but the image and the line is passed by value, which the checker follows soonest. Assumes nothing.
 mod board;
 mod bounce;
-mod desk;
-mod held;
-mod keys;
-mod lent;
-mod out;
+mod calls;
+mod commands;
 mod parts;
+mod say;
 mod table;
 mod words;
 
-use codes::KbHidReport;
+use commands::Board;
+use commands::Bounce;
+use commands::Call;
+use commands::Command;
+use commands::Part;
+use debounce::Debouncer;
 use keyboard::Keyboard;
-use keys::Call;
+use layout::Layout;
 use libc::STDIN_FILENO;
-use words::Bytes;
+use libc::STDOUT_FILENO;
+use talk::Place;
+use talk::Text;
+use talk::front;
+use talk::gather;
 use words::Words;
-ghost use Prim.Native.Nat.{_≤_};
-ghost use lib.ListN.{length};
 
-// How much of the line, and of the answers, is in their buffers. A line longer than its buffer counts one more than fits.
-struct Filled {
-    line: usize,
-    out: usize,
+// What the script has made so far: how many bytes the code buffer and the event buffer have, and the image; the layout, the
+// debouncer and the keyboard.
+struct Desk {
+    room: usize,
+    space: usize,
+    image: usize,
+    layout: Layout,
+    debouncer: Debouncer,
+    keyboard: Keyboard,
 }
 
-struct Came {
-    go: bool,
-    filled: Filled,
+// A line's answer, and what it leaves.
+struct Done {
+    desk: Desk,
+    text: Text,
 }
 
-// `codes HEX`: the report of these codes.
-fn answer_codes(word: &[u8], scratch: &mut [u8], out: &mut [u8], waiting: usize) -> usize {
-    let Bytes::Count(n) = words::read_hex(word, scratch) else {
-        return out::unread(out, waiting);
-    };
-    let report = KbHidReport::from_codes(scratch, n);
-    let b = report.bytes;
-    out::put_hex(out, waiting, &b)
-}
-
-// The lines that set a part of the layout, or a buffer's length, by their commands; all others cannot be read.
-fn answer_part(line: &[u8], w: Words, desk: &mut [u16], out: &mut [u8], waiting: usize) -> usize {
-    if words::asks(line, w, 6, b"state") {
-        return parts::state(line, w, desk, out, waiting);
-    }
-    if words::asks(line, w, 6, b"queue") {
-        return parts::queue(line, w, desk, out, waiting);
-    }
-    if words::asks(line, w, 3, b"counts") {
-        return parts::counts(line, w, desk, out, waiting);
-    }
-    if words::asks(line, w, 5, b"wait") {
-        return parts::wait(line, w, desk, out, waiting);
-    }
-    if words::asks(line, w, 1, b"idle") {
-        return parts::idle(line, desk, out, waiting);
-    }
-    if words::asks(line, w, 2, b"default") {
-        return parts::one(line, w, desk::DEFAULT, desk, out, waiting);
-    }
-    if words::asks(line, w, 2, b"room") {
-        return parts::one(line, w, desk::ROOM, desk, out, waiting);
-    }
-    if words::asks(line, w, 2, b"space") {
-        return parts::one(line, w, desk::SPACE, desk, out, waiting);
-    }
-    out::unread(out, waiting)
-}
-
-// The lines of the keyboard, by their commands; then those of parts.
-fn answer_board(
-    line: &[u8],
-    w: Words,
-    scratch: &mut [u8],
-    desk: &mut [u16],
-    out: &mut [u8],
-    waiting: usize,
-) -> usize {
-    if words::asks(line, w, 2, b"report") {
-        return board::report(line, w, scratch, desk, out, waiting);
-    }
-    if words::asks(line, w, 3, b"get") {
-        return board::get(line, w, desk, out, waiting);
-    }
-    if words::asks(line, w, 4, b"set") {
-        return board::set(line, w, scratch, desk, out, waiting);
-    }
-    if words::asks(line, w, 2, b"rate") {
-        return board::rate(line, w, desk, out, waiting);
-    }
-    if words::asks(line, w, 3, b"idling") {
-        return board::idling(line, w, desk, out, waiting);
-    }
-    if words::asks(line, w, 2, b"clock") {
-        return board::clock(line, w, desk, out, waiting);
-    }
-    if words::asks(line, w, 1, b"descriptor") {
-        return board::descriptor(out, waiting);
-    }
-    answer_part(line, w, desk, out, waiting)
-}
-
-// The lines of the debouncer, by their commands; then the keyboard's.
-fn answer_bounce(
-    line: &[u8],
-    w: Words,
-    scratch: &mut [u8],
-    desk: &mut [u16],
-    out: &mut [u8],
-    waiting: usize,
-) -> usize {
-    if words::asks(line, w, 2, b"scan") {
-        return bounce::scan(line, w, scratch, desk, out, waiting);
-    }
-    if words::asks(line, w, 2, b"update") {
-        return bounce::update(line, w, scratch, desk, out, waiting);
-    }
-    if words::asks(line, w, 1, b"picture") {
-        return bounce::picture(desk, out, waiting);
-    }
-    if words::asks(line, w, 5, b"debounce") {
-        return bounce::debounce(line, w, scratch, desk, out, waiting);
-    }
-    if words::asks(line, w, 7, b"debouncer") {
-        return bounce::debouncer(line, w, scratch, desk, out, waiting);
-    }
-    answer_board(line, w, scratch, desk, out, waiting)
-}
-
-// The lines of codes and tables, by their commands; then the debouncer's.
-fn answer_table(
-    line: &[u8],
-    w: Words,
-    scratch: &mut [u8],
-    table: &mut [u8],
-    desk: &mut [u16],
-    out: &mut [u8],
-    waiting: usize,
-) -> usize {
-    if words::asks(line, w, 2, b"codes") {
-        return answer_codes(words::word(line, w, 1), scratch, out, waiting);
-    }
-    if words::asks(line, w, 2, b"image") {
-        return table::image(line, w, scratch, table, desk, out, waiting);
-    }
-    if words::asks(line, w, 3, b"areas") {
-        return table::areas(line, w, scratch, out, waiting);
-    }
-    answer_bounce(line, w, scratch, desk, out, waiting)
-}
-
-// The lines of the layout's calls, by their commands, of one letter.
-fn answer_call(
-    line: &[u8],
-    w: Words,
-    image: &[u8],
-    desk: &mut [u16],
-    out: &mut [u8],
-    waiting: usize,
-) -> usize {
-    if words::asks(line, w, 1, b"t") {
-        return keys::ask(image, Call::Tick, desk, out, waiting);
-    }
-    if words::asks(line, w, 3, b"p") {
-        return keys::event(line, w, true, image, desk, out, waiting);
-    }
-    if words::asks(line, w, 3, b"r") {
-        return keys::event(line, w, false, image, desk, out, waiting);
-    }
-    if words::asks(line, w, 1, b"k") {
-        return keys::ask(image, Call::Keycodes, desk, out, waiting);
-    }
-    out::unread(out, waiting)
-}
-
-fn answer(
-    line: &[u8],
-    scratch: &mut [u8],
-    table: &mut [u8],
-    desk: &mut [u16],
-    out: &mut [u8],
-    waiting: usize,
-) -> usize {
-    let w = words::split(line);
-    let command = words::word(line, w, 0);
-    if command.len() == 1 {
-        let image = words::first(table, desk::number(desk, desk::IMAGE));
-        return answer_call(line, w, image, desk, out, waiting);
-    }
-    answer_table(line, w, scratch, table, desk, out, waiting)
-}
-
-// The answer to the line that is held, and its newline. A line that did not fit its buffer cannot be read.
-fn end_line(
-    line: &[u8],
-    held: usize,
-    scratch: &mut [u8],
-    table: &mut [u8],
-    desk: &mut [u16],
-    out: &mut [u8],
-    waiting: usize,
-) -> usize {
-    if line.len() < held {
-        let at = out::unread(out, waiting);
-        return out::put(out, at, b'\n');
-    }
-    let at = answer(words::first(line, held), scratch, table, desk, out, waiting);
-    out::put(out, at, b'\n')
-}
-
-// Where the line that `at` is in ends: at its newline, or where the input does.
-fn line_end(input: &[u8], at: usize) -> usize
-    requires { ⌜ at ≤ length (now input) ⌝ }
-    ensures { λ r. ⌜ (at ≤ r) × (r ≤ length (now (input .entry))) ⌝ }
-{
-    let mut i = at;
-    while i < input.len() {
-        if input[i] == b'\n' {
-            return i;
-        }
-        i += 1;
-    }
-    i
-}
-
-// More bytes of a line that has n; past the buffer's end only that there are more.
-fn append(bytes: &[u8], line: &mut [u8], n: usize) -> usize {
-    let mut k = n;
-    let mut i = 0;
-    while i < bytes.len() {
-        if line.len() <= k {
-            return line.len() + 1;
-        }
-        line[k] = bytes[i];
-        k += 1;
-        i += 1;
-    }
-    k
-}
-
-// More bytes of a line, and its answer where it ends with them.
-fn take(
-    bytes: &[u8],
-    ends: bool,
-    line: &mut [u8],
-    scratch: &mut [u8],
-    table: &mut [u8],
-    desk: &mut [u16],
-    out: &mut [u8],
-    filled: Filled,
-) -> Filled {
-    let held = append(bytes, line, filled.line);
-    if ends {
-        let waiting = end_line(line, held, scratch, table, desk, out, filled.out);
-        return Filled {
-            line: 0,
-            out: waiting,
-        };
-    }
-    Filled {
-        line: held,
-        out: filled.out,
-    }
-}
-
-fn feed(
-    input: &[u8],
-    line: &mut [u8],
-    scratch: &mut [u8],
-    table: &mut [u8],
-    desk: &mut [u16],
-    out: &mut [u8],
-    filled: Filled,
-) -> Filled {
-    let mut now = filled;
-    let mut at = 0;
-    while at < input.len() {
-        let end = line_end(input, at);
-        let ends = end < input.len();
-        let next = end + 1;
-        now = take(&input[at..end], ends, line, scratch, table, desk, out, now);
-        at = next;
-    }
-    now
-}
-
-// One read of standard input, and the answers to what it brought.
-fn turn(
-    line: &mut [u8],
-    scratch: &mut [u8],
-    table: &mut [u8],
-    desk: &mut [u16],
-    out: &mut [u8],
-    filled: Filled,
-) -> Came {
-    let mut input = io::large_buffer();
-    let got = libc::read(STDIN_FILENO, &mut input);
-    if got <= 0 {
-        return Came { go: false, filled };
-    }
-    let n = io::count(got, &input);
-    let now = feed(&input[..n], line, scratch, table, desk, out, filled);
-    Came {
-        go: true,
-        filled: now,
-    }
-}
-
-// The end of the input: a last line without newline counts.
-fn finish(
-    line: &[u8],
-    scratch: &mut [u8],
-    table: &mut [u8],
-    desk: &mut [u16],
-    out: &mut [u8],
-    filled: Filled,
-) {
-    if filled.line == 0 {
-        out::flush(out, filled.out);
-        return;
-    }
-    let waiting = end_line(line, filled.line, scratch, table, desk, out, filled.out);
-    out::flush(out, waiting);
+// How things stand after a step.
+struct Stand {
+    desk: Desk,
+    place: Place,
 }
 
 // Before the first line: an empty image with a fresh layout, 64 bytes for codes and 384 for events, a fresh keyboard, and
 // the debouncer that stands at first.
-fn start(desk: &mut [u16]) {
-    desk::set(desk, desk::ROOM, 64);
-    desk::set(desk, desk::SPACE, 384);
-    board::store(Keyboard::new(), desk);
-    bounce::start(desk);
+fn start() -> Desk {
+    Desk {
+        room: 64,
+        space: 384,
+        image: 0,
+        layout: Layout::new(),
+        debouncer: bounce::start(),
+        keyboard: Keyboard::new(),
+    }
 }
 
-fn run(line: &mut [u8], scratch: &mut [u8], table: &mut [u8], desk: &mut [u16], out: &mut [u8]) {
-    start(desk);
-    let mut filled = Filled { line: 0, out: 0 };
+// `image HEX`: the image that later lines are given, with a fresh layout.
+fn on_image(line: &[u8], w: Words, table: &mut [u8; table::ROOM], desk: Desk) -> Done {
+    let got = words::read_hex(words::word(line, w, 1));
+    let bytes = got.bytes;
+    if !got.read {
+        return Done {
+            desk,
+            text: say::unread(),
+        };
+    }
+    table::keep(front(&bytes, got.len), table);
+    let mut after = desk;
+    after.image = got.len;
+    after.layout = Layout::new();
+    Done {
+        desk: after,
+        text: table::checked(front(&bytes, got.len)),
+    }
+}
+
+// `room N`, or `space N`.
+fn on_buffers(room: bool, line: &[u8], w: Words, desk: Desk) -> Done {
+    let numbers = words::read_numbers(line, w, b"n");
+    let of = numbers.of;
+    let mut after = desk;
+    if !numbers.read {
+        return Done {
+            desk,
+            text: say::unread(),
+        };
+    }
+    if room {
+        after.room = of[1];
+    } else {
+        after.space = of[1];
+    }
+    Done {
+        desk: after,
+        text: say::text(line),
+    }
+}
+
+fn on_layout(done: calls::Done, desk: Desk) -> Done {
+    let layout = done.layout;
+    let text = done.text;
+    let mut after = desk;
+    after.layout = layout;
+    Done { desk: after, text }
+}
+
+fn on_call(call: Call, line: &[u8], w: Words, table: &[u8], desk: Desk) -> Done {
+    let image = front(table, desk.image);
+    let layout = desk.layout;
+    on_layout(calls::answer(call, line, w, image, desk.room, layout), desk)
+}
+
+fn on_part(part: Part, line: &[u8], w: Words, desk: Desk) -> Done {
+    let layout = desk.layout;
+    on_layout(parts::answer(part, line, w, layout), desk)
+}
+
+fn on_bounce(asked: Bounce, line: &[u8], w: Words, desk: Desk) -> Done {
+    let debouncer = desk.debouncer;
+    let done = bounce::answer(asked, line, w, desk.space, debouncer);
+    let changed = done.debouncer;
+    let text = done.text;
+    let mut after = desk;
+    after.debouncer = changed;
+    Done { desk: after, text }
+}
+
+fn on_board(asked: Board, line: &[u8], w: Words, desk: Desk) -> Done {
+    let keyboard = desk.keyboard;
+    let done = board::answer(asked, line, w, keyboard);
+    let changed = done.keyboard;
+    let text = done.text;
+    let mut after = desk;
+    after.keyboard = changed;
+    Done { desk: after, text }
+}
+
+fn answer(line: &[u8], table: &mut [u8; table::ROOM], desk: Desk) -> Done {
+    let w = words::split(line);
+    let command = commands::read(line, w);
+    match command {
+        Command::Codes => Done {
+            desk,
+            text: table::codes(line, w),
+        },
+        Command::Areas => Done {
+            desk,
+            text: table::areas(line, w),
+        },
+        Command::Image => on_image(line, w, table, desk),
+        Command::Room => on_buffers(true, line, w, desk),
+        Command::Space => on_buffers(false, line, w, desk),
+        Command::Call(call) => on_call(call, line, w, table, desk),
+        Command::Part(part) => on_part(part, line, w, desk),
+        Command::Bounce(asked) => on_bounce(asked, line, w, desk),
+        Command::Board(asked) => on_board(asked, line, w, desk),
+        Command::Unread => Done {
+            desk,
+            text: say::unread(),
+        },
+    }
+}
+
+// Where writing fails there is nobody to tell.
+fn write(text: Text) {
+    let bytes = text.bytes;
+    io::write_all(STDOUT_FILENO, front(&bytes, text.len));
+}
+
+// One read of standard input. A read that fails is the end of it.
+fn refill(input: &mut [u8], place: Place) -> Place {
+    let got = libc::read(STDIN_FILENO, input);
+    place.filled(io::count(got, input))
+}
+
+// A part of a line, up to its end if that is here; or a read, where all that was here is taken.
+fn advance(input: &mut [u8], line: &mut [u8], place: Place) -> Place {
+    if place.end <= place.at {
+        return refill(input, place);
+    }
+    gather(input, line, place)
+}
+
+// A step of reading, and the answer to the line that is held, where it ended.
+fn step(
+    input: &mut [u8],
+    line: &mut [u8],
+    table: &mut [u8; table::ROOM],
+    desk: Desk,
+    place: Place,
+) -> Stand {
+    let next = advance(input, line, place);
+    if !next.ended {
+        return Stand { desk, place: next };
+    }
+    let done = answer(front(line, next.held), table, desk);
+    let after = done.desk;
+    let text = done.text;
+    write(text.put(b'\n'));
+    Stand {
+        desk: after,
+        place: next.answered(),
+    }
+}
+
+// Answers lines to the end of the input. Nothing says that it has one, so the loop counts its turns down from a number
+// that no run uses up.
+fn run(input: &mut [u8], line: &mut [u8], table: &mut [u8; table::ROOM]) {
+    let mut desk = start();
+    let mut place = Place::start();
     let mut turns = u64::MAX;
-    let mut go = true;
-    while turns > 0 && go {
-        let came = turn(line, scratch, table, desk, out, filled);
-        filled = came.filled;
-        go = came.go;
+    while turns > 0 && !place.over {
+        let now = step(input, line, table, desk, place);
+        desk = now.desk;
+        place = now.place;
         turns -= 1;
     }
-    finish(line, scratch, table, desk, out, filled);
 }
 
 fn main() {
+    let mut input = io::large_buffer();
     let mut line = [0u8; 32768];
-    let mut scratch = [0u8; 32768];
-    let mut table = [0u8; 16384];
-    let mut desk = [0u16; desk::WORDS];
-    let mut out = io::large_buffer();
-    run(&mut line, &mut scratch, &mut table, &mut desk, &mut out);
+    let mut table = [0u8; table::ROOM];
+    run(&mut input, &mut line, &mut table);
 }

@@ -1,113 +1,184 @@
 // The lines that set a part of the layout as it stands, legal or not: `default`, `counts`, `state`, `queue`, `wait`,
-// `idle`. The answer is the line itself; `one` serves `room` and `space` too. Assumes nothing.
-use super::desk;
-use super::out;
+// `idle`. The answer is the line itself. Assumes nothing.
+use super::calls::Done;
+use super::commands::Part;
+use super::say;
 use super::words;
+use super::words::Numbers;
 use super::words::Words;
+use event::Coord;
+use event::Event;
 use layout::Layout;
+use layout::Slot;
+use layout::Stacked;
+use layout::State;
+use layout::Waiting;
+use layout::WaitingState;
 
-// `default N`; and a line that sets no part of it, but a buffer's length: `room N`, `space N`.
-pub fn one(
-    line: &[u8],
-    w: Words,
-    at: usize,
-    desk: &mut [u16],
-    out: &mut [u8],
-    waiting: usize,
-) -> usize {
-    let n = words::number_at(line, w, 1);
-    if 65535 < n {
-        return out::unread(out, waiting);
+fn unread(layout: Layout) -> Done {
+    Done {
+        layout,
+        text: say::unread(),
     }
-    desk::set(desk, at, n);
-    out::put_all(out, waiting, line)
+}
+
+fn set(layout: Layout, line: &[u8]) -> Done {
+    Done {
+        layout,
+        text: say::text(line),
+    }
+}
+
+// `default N`
+fn default_layer(line: &[u8], w: Words, layout: Layout) -> Done {
+    let numbers = words::read_numbers(line, w, b"n");
+    if !numbers.read {
+        return unread(layout);
+    }
+    let of = numbers.of;
+    let mut out = layout;
+    out.default_layer = of[1];
+    set(out, line)
 }
 
 // `counts STATES QUEUED`
-pub fn counts(line: &[u8], w: Words, desk: &mut [u16], out: &mut [u8], waiting: usize) -> usize {
-    let states = words::number_at(line, w, 1);
-    let queued = words::number_at(line, w, 2);
-    if !words::are_numbers(states, queued) {
-        return out::unread(out, waiting);
+fn counts(line: &[u8], w: Words, layout: Layout) -> Done {
+    let numbers = words::read_numbers(line, w, b"nn");
+    if !numbers.read {
+        return unread(layout);
     }
-    desk::set(desk, desk::STATES, states);
-    desk::set(desk, desk::QUEUED, queued);
-    out::put_all(out, waiting, line)
+    let of = numbers.of;
+    let mut out = layout;
+    out.len = of[1];
+    out.queued = of[2];
+    set(out, line)
 }
 
-// The code of a `key`, the number of a `layer`, or neither, which is past every number.
-fn state_value(line: &[u8], w: Words, layer: bool) -> usize {
+fn coord_of(i: usize, j: usize) -> Coord {
+    Coord {
+        i: words::low(i),
+        j: words::low(j),
+    }
+}
+
+fn slot_of(layer: bool, value: usize, coord: Coord) -> Slot {
     if layer {
-        return words::number_at(line, w, 3);
+        return Slot {
+            state: State::LayerModifier {
+                value: words::low_word(value),
+                coord,
+            },
+        };
+    }
+    Slot {
+        state: State::NormalKey {
+            keycode: words::low(value),
+            coord,
+        },
+    }
+}
+
+// The numbers of a state: a layer's is any number, a key's code a byte.
+fn state_numbers(line: &[u8], w: Words, layer: bool) -> Numbers {
+    if layer {
+        return words::read_numbers(line, w, b"n nbb");
     }
     if words::is(words::word(line, w, 2), b"key") {
-        return words::byte_at(line, w, 3);
+        return words::read_numbers(line, w, b"n bbb");
     }
-    65536
+    Numbers {
+        read: false,
+        of: [0; 8],
+    }
 }
 
 // `state K key CODE I J` or `state K layer N I J`
-pub fn state(line: &[u8], w: Words, desk: &mut [u16], out: &mut [u8], waiting: usize) -> usize {
-    let k = words::number_at(line, w, 1);
+fn state(line: &[u8], w: Words, layout: Layout) -> Done {
     let layer = words::is(words::word(line, w, 2), b"layer");
-    let value = state_value(line, w, layer);
-    let i = words::byte_at(line, w, 4);
-    let j = words::byte_at(line, w, 5);
+    let numbers = state_numbers(line, w, layer);
+    if !numbers.read {
+        return unread(layout);
+    }
+    let of = numbers.of;
+    let k = of[1];
     if Layout::STATES <= k {
-        return out::unread(out, waiting);
+        return unread(layout);
     }
-    if 65535 < value {
-        return out::unread(out, waiting);
+    let mut out = layout;
+    out.states[k] = slot_of(layer, of[3], coord_of(of[4], of[5]));
+    set(out, line)
+}
+
+fn stacked_of(press: bool, i: u8, j: u8, since: u16) -> Stacked {
+    if press {
+        return Stacked {
+            event: Event::Press(i, j),
+            since,
+        };
     }
-    if !words::are_bytes(i, j) {
-        return out::unread(out, waiting);
+    Stacked {
+        event: Event::Release(i, j),
+        since,
     }
-    desk::set_four(desk, desk::state_place(k), [words::one(layer), value, i, j]);
-    out::put_all(out, waiting, line)
 }
 
 // `queue K p I J AGE` or `queue K r I J AGE`
-pub fn queue(line: &[u8], w: Words, desk: &mut [u16], out: &mut [u8], waiting: usize) -> usize {
-    let k = words::number_at(line, w, 1);
-    let press = words::is(words::word(line, w, 2), b"p");
-    let i = words::byte_at(line, w, 3);
-    let j = words::byte_at(line, w, 4);
-    let age = words::number_at(line, w, 5);
-    if !press && !words::is(words::word(line, w, 2), b"r") {
-        return out::unread(out, waiting);
+fn queue(line: &[u8], w: Words, layout: Layout) -> Done {
+    let way = words::place_in(b"p r", words::word(line, w, 2));
+    let numbers = words::read_numbers(line, w, b"n bbn");
+    if !numbers.read || 1 < way {
+        return unread(layout);
     }
+    let of = numbers.of;
+    let k = of[1];
     if Layout::QUEUE <= k {
-        return out::unread(out, waiting);
+        return unread(layout);
     }
-    if 65535 < age {
-        return out::unread(out, waiting);
+    let mut out = layout;
+    out.stacked[k] = stacked_of(
+        way == 0,
+        words::low(of[3]),
+        words::low(of[4]),
+        words::low_word(of[5]),
+    );
+    set(out, line)
+}
+
+fn with_waiting(layout: Layout, waiting: Waiting) -> Layout {
+    let states = layout.states;
+    let stacked = layout.stacked;
+    Layout {
+        default_layer: layout.default_layer,
+        states,
+        len: layout.len,
+        waiting,
+        stacked,
+        queued: layout.queued,
     }
-    if !words::are_bytes(i, j) {
-        return out::unread(out, waiting);
-    }
-    desk::set_four(desk, desk::queue_place(k), [words::one(press), i, j, age]);
-    out::put_all(out, waiting, line)
 }
 
 // `wait I J LEFT RECORD`
-pub fn wait(line: &[u8], w: Words, desk: &mut [u16], out: &mut [u8], waiting: usize) -> usize {
-    let i = words::byte_at(line, w, 1);
-    let j = words::byte_at(line, w, 2);
-    let left = words::number_at(line, w, 3);
-    let record = words::number_at(line, w, 4);
-    if !words::are_bytes(i, j) {
-        return out::unread(out, waiting);
+fn wait(line: &[u8], w: Words, layout: Layout) -> Done {
+    let numbers = words::read_numbers(line, w, b"bbnn");
+    if !numbers.read {
+        return unread(layout);
     }
-    if !words::are_numbers(left, record) {
-        return out::unread(out, waiting);
-    }
-    desk::set(desk, desk::WAITS, 1);
-    desk::set_four(desk, desk::WAITS + 1, [i, j, left, record]);
-    out::put_all(out, waiting, line)
+    let of = numbers.of;
+    let waiting = WaitingState {
+        coord: coord_of(of[1], of[2]),
+        left: words::low_word(of[3]),
+        number: words::low_word(of[4]),
+    };
+    set(with_waiting(layout, Waiting::On(waiting)), line)
 }
 
-// `idle`
-pub fn idle(line: &[u8], desk: &mut [u16], out: &mut [u8], waiting: usize) -> usize {
-    desk::set(desk, desk::WAITS, 0);
-    out::put_all(out, waiting, line)
+pub fn answer(part: Part, line: &[u8], w: Words, layout: Layout) -> Done {
+    match part {
+        Part::Default => default_layer(line, w, layout),
+        Part::Counts => counts(line, w, layout),
+        Part::State => state(line, w, layout),
+        Part::Queue => queue(line, w, layout),
+        Part::Wait => wait(line, w, layout),
+        Part::Idle => set(with_waiting(layout, Waiting::Nothing), line),
+    }
 }

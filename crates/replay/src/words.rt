@@ -1,17 +1,36 @@
-// The words of a script's line, parted by single spaces, and what they say: a command, a number, bytes in hex, a picture.
+// The words of a script's line, parted by single spaces, and what they say: numbers, bytes in hex, a picture.
 // Everything is read strictly (docs/REPLAY.md). Assumes nothing.
 ghost use mathlib.Core.Path.{_≡_};
 
-// Where the words of a line end. A line of more than eight words has none.
+// Where the words of a line end. A line of more than ten words has none.
 pub struct Words {
     pub count: usize,
-    pub ends: [usize; 8],
+    pub ends: [usize; 10],
+}
+
+// What a word of hex or a picture says.
+pub struct Bytes {
+    pub read: bool,
+    pub len: usize,
+    pub bytes: [u8; 32768],
+}
+
+// The numbers of a line, each at its word's place, and whether all of them could be read.
+pub struct Numbers {
+    pub read: bool,
+    pub of: [usize; 8],
+}
+
+// The byte that two hex digits spell.
+enum Pair {
+    Byte(u8),
+    Unread,
 }
 
 pub fn split(line: &[u8]) -> Words {
     let mut words = Words {
         count: 0,
-        ends: [0; 8],
+        ends: [0; 10],
     };
     let mut i = 0;
     while i < line.len() {
@@ -23,22 +42,22 @@ pub fn split(line: &[u8]) -> Words {
     with_end(words, line.len())
 }
 
-// One word more; past the eighth there is no reading the line, and the count stays past it.
+// One word more; past the tenth there is no reading the line, and the count stays past it.
 fn with_end(words: Words, end: usize) -> Words {
     let n = words.count;
     let mut out = words;
-    if n < 8 {
+    if n < 10 {
         out.ends[n] = end;
         out.count = n + 1;
     } else {
-        out.count = 9;
+        out.count = 11;
     }
     out
 }
 
 // Word k of a line, empty where there is none.
 pub fn word(line: &[u8], words: Words, k: usize) -> &[u8] {
-    if 8 <= k {
+    if 10 <= k {
         return &line[..0];
     }
     let ends = words.ends;
@@ -50,31 +69,15 @@ pub fn word(line: &[u8], words: Words, k: usize) -> &[u8] {
     &line[..0]
 }
 
-fn start_of(ends: [usize; 8], k: usize) -> usize {
+fn start_of(ends: [usize; 10], k: usize) -> usize {
     if k == 0 {
         return 0;
     }
-    if 8 < k {
+    if 10 < k {
         return 0;
     }
     let space = ends[k - 1];
     if space < usize::MAX { space + 1 } else { 0 }
-}
-
-// The first n bytes, or all where there are fewer.
-pub fn first(bytes: &[u8], n: usize) -> &[u8] {
-    if n <= bytes.len() {
-        return &bytes[..n];
-    }
-    bytes
-}
-
-// What is past the first n bytes.
-pub fn after(bytes: &[u8], n: usize) -> &[u8] {
-    if n <= bytes.len() {
-        return &bytes[n..];
-    }
-    &bytes[..0]
 }
 
 // Whether two words are the same.
@@ -92,29 +95,17 @@ pub fn is(word: &[u8], other: &[u8]) -> bool {
     true
 }
 
-// Whether a line is this command, with so many words in all.
-pub fn asks(line: &[u8], words: Words, count: usize, command: &[u8]) -> bool {
-    if words.count != count {
-        return false;
+// The place of a word among some, parted by single spaces; 10 where it is none of them.
+pub fn place_in(some: &[u8], sought: &[u8]) -> usize {
+    let words = split(some);
+    let mut k = 0;
+    while k < 10 {
+        if is(word(some, words, k), sought) {
+            return k;
+        }
+        k += 1;
     }
-    is(word(line, words, 0), command)
-}
-
-// The byte that two hex digits spell.
-enum Pair {
-    Byte(u8),
-    Unread,
-}
-
-// How many bytes a word says, or that it cannot be read.
-pub enum Bytes {
-    Count(usize),
-    Unread,
-}
-
-pub enum Number {
-    Is(usize),
-    Unread,
+    10
 }
 
 // The value of a hex digit, 16 where it is none.
@@ -140,83 +131,118 @@ fn pair_of(first: u8, second: u8) -> Pair {
     Pair::Byte(high * 16 + low)
 }
 
+fn no_bytes(read: bool) -> Bytes {
+    Bytes {
+        read,
+        len: 0,
+        bytes: [0; 32768],
+    }
+}
+
 fn is_none(word: &[u8]) -> bool {
     word.len() == 1 && word[0] == b'-'
 }
 
-// Reads a word of hex digits, two a byte, into `bytes`; `-` is the word of no byte.
-pub fn read_hex(word: &[u8], bytes: &mut [u8]) -> Bytes {
+// Two hex digits a byte; `-` is the word of no byte.
+pub fn read_hex(word: &[u8]) -> Bytes {
     if is_none(word) {
-        return Bytes::Count(0);
+        return no_bytes(true);
     }
-    let count = word.len() / 2;
-    if count == 0 || word.len() % 2 != 0 {
-        return Bytes::Unread;
+    let len = word.len() / 2;
+    if len == 0 || word.len() % 2 != 0 {
+        return no_bytes(false);
     }
-    if bytes.len() < count {
-        return Bytes::Unread;
-    }
+    let mut bytes = [0u8; 32768];
     let mut i = 0;
-    while i < count {
+    while i < len && i < 32768 {
         let Pair::Byte(b) = pair_of(word[2 * i], word[2 * i + 1]) else {
-            return Bytes::Unread;
+            return no_bytes(false);
         };
         bytes[i] = b;
         i += 1;
     }
-    Bytes::Count(count)
+    Bytes {
+        read: true,
+        len: i,
+        bytes,
+    }
 }
 
-// Reads a picture into `bytes`: a decimal digit a byte; `-` is the picture of no byte.
-pub fn read_picture(word: &[u8], bytes: &mut [u8]) -> Bytes {
+// A decimal digit a byte; `-` is the picture of no byte.
+pub fn read_picture(word: &[u8]) -> Bytes {
     if is_none(word) {
-        return Bytes::Count(0);
+        return no_bytes(true);
     }
-    if word.len() == 0 || bytes.len() < word.len() {
-        return Bytes::Unread;
-    }
+    let mut bytes = [0u8; 32768];
     let mut i = 0;
-    while i < word.len() && i < bytes.len() {
+    while i < word.len() && i < 32768 {
         let d = digit(word[i]);
         if 9 < d {
-            return Bytes::Unread;
+            return no_bytes(false);
         }
         bytes[i] = d;
         i += 1;
     }
-    Bytes::Count(word.len())
+    Bytes {
+        read: 0 < i,
+        len: i,
+        bytes,
+    }
 }
 
-// A decimal number of one to five digits, up to 65,535.
-pub fn read_number(word: &[u8]) -> Number {
+// A decimal number of one to five digits, up to 65,535; past that where the word is none.
+fn number(word: &[u8]) -> usize {
     if word.len() == 0 || 5 < word.len() {
-        return Number::Unread;
+        return 65536;
     }
     let mut n: usize = 0;
     let mut i = 0;
     while i < word.len() {
-        let Number::Is(more) = with_digit(n, word[i]) else {
-            return Number::Unread;
-        };
-        n = more;
+        n = with_digit(n, word[i]);
         i += 1;
     }
-    Number::Is(n)
+    n
 }
 
-fn with_digit(n: usize, c: u8) -> Number {
+fn with_digit(n: usize, c: u8) -> usize {
     let d = digit(c);
     if 9 < d {
-        return Number::Unread;
+        return 65536;
     }
     if 6553 < n {
-        return Number::Unread;
+        return 65536;
     }
     let more = n * 10 + wide(d);
-    if 65535 < more {
-        return Number::Unread;
+    if 65535 < more { 65536 } else { more }
+}
+
+// A word as a kind says: `n` a number; `b` one of at most three digits, up to 255; any other kind is not looked at.
+fn number_as(kind: u8, word: &[u8]) -> usize {
+    if kind == b'n' {
+        return number(word);
     }
-    Number::Is(more)
+    if kind != b'b' {
+        return 0;
+    }
+    let n = number(word);
+    if 3 < word.len() || 255 < n {
+        return 65536;
+    }
+    n
+}
+
+// The words after the first, by a letter of `kinds` each.
+pub fn read_numbers(line: &[u8], w: Words, kinds: &[u8]) -> Numbers {
+    let mut of = [0usize; 8];
+    let mut read = true;
+    let mut k = 0;
+    while k < 7 && k < kinds.len() {
+        let n = number_as(kinds[k], word(line, w, k + 1));
+        of[k + 1] = n;
+        read = read && n <= 65535;
+        k += 1;
+    }
+    Numbers { read, of }
 }
 
 pub fn wide(d: u8) -> usize
@@ -225,52 +251,13 @@ pub fn wide(d: u8) -> usize
     d as usize
 }
 
-// A decimal number of one to three digits, up to 255.
-pub fn read_byte(word: &[u8]) -> Number {
-    if 3 < word.len() {
-        return Number::Unread;
-    }
-    let Number::Is(n) = read_number(word) else {
-        return Number::Unread;
-    };
-    if 255 < n {
-        return Number::Unread;
-    }
-    Number::Is(n)
-}
-
-// Word k as a number of `read_number`; one that cannot be read is past every such number.
-pub fn number_at(line: &[u8], w: Words, k: usize) -> usize {
-    match read_number(word(line, w, k)) {
-        Number::Is(n) => n,
-        Number::Unread => 65536,
-    }
-}
-
-// The same of `read_byte`.
-pub fn byte_at(line: &[u8], w: Words, k: usize) -> usize {
-    match read_byte(word(line, w, k)) {
-        Number::Is(n) => n,
-        Number::Unread => 65536,
-    }
-}
-
-// Whether two such words are bytes, and whether they are numbers.
-pub fn are_bytes(a: usize, b: usize) -> bool {
-    a <= 255 && b <= 255
-}
-
-pub fn are_numbers(a: usize, b: usize) -> bool {
-    a <= 65535 && b <= 65535
-}
-
-// The low byte.
+// The low byte, and the low word.
 pub fn low(n: usize) -> u8 {
     (n % 256) as u8
 }
 
-pub fn one(yes: bool) -> usize {
-    if yes { 1 } else { 0 }
+pub fn low_word(n: usize) -> u16 {
+    (n % 65536) as u16
 }
 
 pub fn flag(yes: bool) -> u8 {

@@ -6,10 +6,10 @@ use Rattle.replay.proofs.run.Statement.{statement}
 use Rattle.replay.proofs.run.Tie as tie
 
 abbrev Inv-loop : tie.InvT-loop
-Inv-loop line₀ scratch₀ table₀ desk₀ out₀ filled₀ turns₀ go₀ line scratch table desk out filled turns go = (length line ≡ length line₀) × (length scratch ≡ length scratch₀) × (length table ≡ length table₀) × (length desk ≡ length desk₀) × (length out ≡ length out₀)
+Inv-loop input₀ line₀ table₀ desk₀ place₀ turns₀ input line table desk place turns = (length input ≡ length input₀) × (length line ≡ length line₀)
 
 abbrev μ-loop : tie.MeasureT-loop
-μ-loop line₀ scratch₀ table₀ desk₀ out₀ filled₀ turns₀ go₀ line scratch table desk out filled turns go = turns
+μ-loop input₀ line₀ table₀ desk₀ place₀ turns₀ input line table desk place turns = turns
 
 pub run-spec : {M : Type 1} → statement M
 run-spec =
@@ -18,12 +18,12 @@ run-spec =
     Inv-loop
     μ-loop
     (λ c κs. search needs)
+    (λ c κs. search needs)
     (λ c. search needs)
     (λ c κs. search needs)
     (λ c. search needs)
     (λ c. search needs)
     (λ c. search needs)
-    (λ c κs. search needs)
     (λ c. search needs)
     (λ c. search needs)
     (λ c. search needs)

@@ -1,13 +1,12 @@
 -- `replay::table::keep` is safe and ends. Assumes nothing.
 use borrow.Author.Needs.{needs}
-use Prim.Native.Nat.{_≤_, _-_}
-use mathlib.Core.Path.{_≡_}
+use Prim.Native.Nat.{_-_, _≤_}
 use lib.ListN.{length}
 use Rattle.replay.proofs.table.keep.Statement.{statement}
 use Rattle.replay.proofs.table.keep.Tie as tie
 
 abbrev Inv-loop : tie.InvT-loop
-Inv-loop image table₀ i₀ table i = (i ≤ length image) × (length table ≡ length table₀)
+Inv-loop image table₀ i₀ table i = i ≤ length image
 
 abbrev μ-loop : tie.MeasureT-loop
 μ-loop image table₀ i₀ table i = length image - i
@@ -18,8 +17,6 @@ keep-spec =
     (tie.spec
     Inv-loop
     μ-loop
-    (λ c. search needs)
-    (λ c. search needs)
     (λ c. search needs)
     (λ c. search needs)
     (λ c. search needs)

@@ -1,13 +1,12 @@
 -- `replay::words::read_picture` is safe and ends. Assumes nothing.
 use borrow.Author.Needs.{needs}
-use Prim.Native.Nat.{_≤_, _-_}
-use mathlib.Core.Path.{_≡_}
+use Prim.Native.Nat.{_-_, _≤_}
 use lib.ListN.{length}
 use Rattle.replay.proofs.words.read_picture.Statement.{statement}
 use Rattle.replay.proofs.words.read_picture.Tie as tie
 
 abbrev Inv-loop : tie.InvT-loop
-Inv-loop word bytes₀ i₀ bytes i = (i ≤ length word) × (length bytes ≡ length bytes₀)
+Inv-loop word bytes₀ i₀ bytes i = i ≤ length word
 
 abbrev μ-loop : tie.MeasureT-loop
 μ-loop word bytes₀ i₀ bytes i = length word - i
@@ -19,15 +18,12 @@ read-picture-spec =
     Inv-loop
     μ-loop
     (λ c κs. search needs)
-    (λ c. search needs)
-    (λ c. search needs)
-    (λ c. search needs)
-    (λ c. search needs)
     (λ c κs. search needs)
     (λ c. search needs)
     (λ c. search needs)
     (λ c. search needs)
-    (λ c. search needs)
+    (λ c κs. search needs)
+    (λ c κs. search needs)
     (λ c. search needs)
     (λ c. search needs)
     (λ c. search needs)

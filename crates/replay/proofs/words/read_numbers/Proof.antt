@@ -1,0 +1,31 @@
+-- `replay::words::read_numbers` is safe and ends. Assumes nothing.
+use borrow.Author.Needs.{needs}
+use Prim.Native.Nat.{_-_, _≤_}
+use Rattle.replay.proofs.words.read_numbers.Statement.{statement}
+use Rattle.replay.proofs.words.read_numbers.Tie as tie
+
+abbrev Inv-loop : tie.InvT-loop
+Inv-loop line w kinds of₀ read₀ k₀ of read k = k ≤ 7
+
+abbrev μ-loop : tie.MeasureT-loop
+μ-loop line w kinds of₀ read₀ k₀ of read k = 7 - k
+
+pub read-numbers-spec : {M : Type 1} → statement M
+read-numbers-spec =
+    tie.close
+    (tie.spec
+    Inv-loop
+    μ-loop
+    (λ c. search needs)
+    (λ c. search needs)
+    (λ c. search needs)
+    (λ c κs. search needs)
+    (λ c κs. search needs)
+    (λ c. search needs)
+    (λ c. search needs)
+    (λ c. search needs)
+    (λ c. search needs)
+    (λ c. search needs)
+    (λ c. search needs)
+    (λ c. search needs)
+    (λ c. search needs))

@@ -1,0 +1,12 @@
+-- `talk::Place::answered` meets its contract. Assumes nothing.
+use mathlib.Core.Path.{refl}
+use Rattle.talk.specs.Input.{answeredOf}
+use Rattle.talk.proofs.input.Place.answered.Statement.{statement}
+use Rattle.talk.proofs.input.Place.answered.Tie as tie
+
+returns : tie.Need-returns
+unfolding answeredOf
+returns c = refl
+
+pub answered-spec : {M : Type 1} → statement M
+answered-spec = tie.close (tie.spec returns)
