@@ -1,152 +1,160 @@
 // The program `panel`: document 01, Bench cases. It reads the image from `table.img`, then lines from standard input, and
 // writes the report after each, `?` for a line that it cannot read, and for a refused image the refusal alone. What a line
-// may say is crate lines'. Assumes nothing.
-mod input;
-mod out;
+// may say is crate lines'; lines and answers are gathered by crate talk. Assumes nothing.
 mod table;
 
 use codes::KbHidReport;
 use image::Checked;
-use input::Place;
 use layout::Answered;
 use layout::Layout;
 use layout::Told;
+use libc::STDIN_FILENO;
+use libc::STDOUT_FILENO;
 use lines::Line;
 use table::Taken;
+use talk::Place;
+use talk::Text;
+use talk::front;
+use talk::gather;
 ghost use mathlib.Core.Path.{_≡_};
 
-// The layout after a line, and how many bytes wait to be written.
+// The longest line that can be read has nine bytes.
+const LINE: usize = 16;
+
+const INPUT: usize = 4096;
+
+// The layout after a line, and its answer.
 struct Done {
     layout: Layout,
-    waiting: usize,
+    text: Text,
 }
 
-// How things stand after a step: the layout, and where reading and writing stand.
+// How things stand after a step: the layout, and where reading stands.
 struct Stand {
     layout: Layout,
     place: Place,
 }
 
-// A refusal's number and place, on a line.
-fn put_refused(number: u8, place: usize, out: &mut [u8], waiting: usize) -> usize {
-    let a = out::put_all(out, waiting, b"refused ");
-    let b = out::put_number(out, a, number as usize);
-    let c = out::put(out, b, b' ');
-    let d = out::put_number(out, c, place);
-    out::put(out, d, b'\n')
+// Writes a line. Where that fails there is nobody to tell.
+fn write(text: Text) {
+    let whole = text.put(b'\n');
+    let bytes = whole.bytes;
+    io::write_all(STDOUT_FILENO, front(&bytes, whole.len));
+}
+
+// A refusal's number and place.
+fn refused(number: u8, place: usize) -> Text {
+    Text::new()
+        .put_all(b"refused ")
+        .put_number(number as usize)
+        .put(b' ')
+        .put_number(place)
 }
 
 // The report of the codes that a call gave. A call is not refused here: the image is accepted and the layout is one that
 // calls led to. Were it refused, that would be told.
-fn put_told(told: Told, codes: &[u8], out: &mut [u8], waiting: usize) -> usize {
+fn report(told: Told, codes: &[u8]) -> Text {
     if told.number != 0 {
-        return put_refused(told.number, told.place, out, waiting);
+        return refused(told.number, told.place);
     }
     let report = KbHidReport::from_codes(codes, told.codes);
     let bytes = report.bytes;
-    let a = out::put_hex(out, waiting, &bytes);
-    out::put(out, a, b'\n')
+    Text::new().put_hex(&bytes)
 }
 
-fn report_after(answered: Answered, codes: &[u8], out: &mut [u8], waiting: usize) -> Done {
+fn report_after(answered: Answered, codes: &[u8]) -> Done {
     let layout = answered.layout;
     let answer = answered.answer;
-    let after = put_told(answer.told(), codes, out, waiting);
     Done {
         layout,
-        waiting: after,
+        text: report(answer.told(), codes),
     }
 }
 
 // What a line asks, and its answer.
-fn answer(
-    image: &[u8],
-    layout: Layout,
-    line: &[u8],
-    codes: &mut [u8],
-    out: &mut [u8],
-    waiting: usize,
-) -> Done {
+fn answer(image: &[u8], layout: Layout, line: &[u8]) -> Done {
+    let mut codes = [0u8; Layout::STATES];
     let said = lines::read_line(line);
     match said {
         Line::Key(event) => {
-            let answered = layout.event(image, event, codes);
-            report_after(answered, codes, out, waiting)
+            let answered = layout.event(image, event, &mut codes);
+            report_after(answered, &codes)
         }
         Line::Tick => {
-            let answered = layout.tick(image, codes);
-            report_after(answered, codes, out, waiting)
+            let answered = layout.tick(image, &mut codes);
+            report_after(answered, &codes)
         }
-        Line::Unread => {
-            let after = out::put_all(out, waiting, b"?\n");
-            Done {
-                layout,
-                waiting: after,
-            }
-        }
+        Line::Unread => Done {
+            layout,
+            text: Text::new().put(b'?'),
+        },
     }
 }
 
-// A step of reading, and the answer to the line that is held, where it ended.
-fn step(
-    image: &[u8],
-    layout: Layout,
-    input: &mut [u8],
-    line: &mut [u8],
-    codes: &mut [u8],
-    out: &mut [u8],
-    place: Place,
-) -> Stand {
-    let next = input::advance(input, line, out, place);
-    if !next.ended {
-        return Stand {
-            layout,
-            place: next,
-        };
+// One read of standard input. A read that fails is the end of it.
+fn refill(input: &mut [u8; INPUT], place: Place) -> Place {
+    let got = libc::read(STDIN_FILENO, input);
+    place.filled(io::count(got, input))
+}
+
+// A part of a line, up to its end if that is here; or a read, where all that was here is taken.
+fn advance(input: &mut [u8; INPUT], line: &mut [u8; LINE], place: Place) -> Place {
+    if place.end <= place.at {
+        return refill(input, place);
     }
-    let held = input::held(line, next.held);
-    let done = answer(image, layout, held, codes, out, next.waiting);
-    let after = done.layout;
+    gather(input, line, place)
+}
+
+// The answer to the line that is held.
+fn reply(image: &[u8], layout: Layout, line: &[u8]) -> Layout {
+    let done = answer(image, layout, line);
+    let text = done.text;
+    write(text);
+    done.layout
+}
+
+// A step of reading, and the answer to the line that is held, where it ended.
+fn step(image: &[u8], input: &mut [u8; INPUT], line: &mut [u8; LINE], now: Stand) -> Stand {
+    let layout = now.layout;
+    let before = now.place;
+    let place = advance(input, line, before);
+    if !place.ended {
+        return Stand { layout, place };
+    }
     Stand {
-        layout: after,
-        place: input::answered(next, done.waiting),
+        layout: reply(image, layout, front(line, place.held)),
+        place: place.answered(),
     }
 }
 
 // Answers lines to the end of the input. Nothing says that it has one, so the loop counts its turns down from a number
 // that no run uses up.
-fn answer_all(image: &[u8], input: &mut [u8], line: &mut [u8], codes: &mut [u8], out: &mut [u8]) {
-    let mut layout = Layout::new();
-    let mut place = input::start();
+fn answer_all(image: &[u8], input: &mut [u8; INPUT], line: &mut [u8; LINE]) {
+    let mut now = Stand {
+        layout: Layout::new(),
+        place: Place::start(),
+    };
     let mut turns = u64::MAX;
-    while turns > 0 && !place.over {
-        let now = step(image, layout, input, line, codes, out, place);
-        layout = now.layout;
-        place = now.place;
+    let mut over = false;
+    while turns > 0 && !over {
+        now = step(image, input, line, now);
+        let place = now.place;
+        over = place.over;
         turns -= 1;
     }
-    out::flush(out, place.waiting);
-}
-
-fn refuse(number: u8, place: usize) {
-    let mut out = [0u8; 64];
-    let waiting = put_refused(number, place, &mut out, 0);
-    out::flush(&out, waiting);
 }
 
 fn with_image(image: &[u8]) {
     let checked = image::check(image);
     match checked {
         Checked::Accepted(_) => {
-            let mut input = io::buffer();
-            let mut line = [0u8; 16];
-            let mut codes = [0u8; Layout::STATES];
-            let mut out = io::buffer();
-            answer_all(image, &mut input, &mut line, &mut codes, &mut out);
+            let mut input = [0u8; INPUT];
+            let mut line = [0u8; LINE];
+            answer_all(image, &mut input, &mut line);
         }
         Checked::Refused(_, _) => {
             let told = checked.told();
-            refuse(told.number, told.place);
+            write(refused(told.number, told.place));
         }
     }
 }
@@ -158,7 +166,7 @@ pub fn run()
     let mut bytes = [0u8; table::ROOM];
     let taken = table::take(&mut bytes);
     match taken {
-        Taken::Bytes(n) => with_image(table::first(&bytes, n)),
+        Taken::Bytes(n) => with_image(front(&bytes, n)),
         Taken::Nothing => {}
     }
 }

@@ -16,14 +16,6 @@ struct Part {
     failed: bool,
 }
 
-// The first n bytes, or all where there are fewer.
-pub(crate) fn first(bytes: &[u8], n: usize) -> &[u8] {
-    if n <= bytes.len() {
-        return &bytes[..n];
-    }
-    bytes
-}
-
 // The sum of two numbers that are far below the largest.
 pub(crate) fn sum(a: usize, b: usize) -> usize {
     if a <= usize::MAX - b { a + b } else { a }

@@ -4,6 +4,7 @@
 use super::commands::Board;
 use super::say;
 use super::words;
+use super::words::Bytes;
 use super::words::Words;
 use codes::KbHidReport;
 use keyboard::Clocked;
@@ -25,14 +26,15 @@ fn unread(keyboard: Keyboard) -> Done {
 }
 
 // `report HEX`: the report to send from now on, eight bytes.
-fn report(line: &[u8], w: Words, keyboard: Keyboard) -> Done {
-    let got = words::read_hex(words::word(line, w, 1));
-    let b = got.bytes;
-    if !got.read || got.len != 8 {
+fn report(bytes: Bytes, keyboard: Keyboard) -> Done {
+    if !bytes.read || bytes.len != 8 {
         return unread(keyboard);
     }
-    let bytes = [b[0], b[1], b[2], b[3], b[4], b[5], b[6], b[7]];
-    let done = through::set_keyboard_report(keyboard, KbHidReport { bytes });
+    let b = bytes.bytes;
+    let report = KbHidReport {
+        bytes: [b[0], b[1], b[2], b[3], b[4], b[5], b[6], b[7]],
+    };
+    let done = through::set_keyboard_report(keyboard, report);
     let after = done.keyboard;
     Done {
         keyboard: after,
@@ -49,13 +51,8 @@ fn got(number: u8, bytes: [u8; 8]) -> Text {
 }
 
 // `get TYPE ID`
-fn get(line: &[u8], w: Words, keyboard: Keyboard) -> Done {
-    let numbers = words::read_numbers(line, w, b"bb");
-    if !numbers.read {
-        return unread(keyboard);
-    }
-    let of = numbers.of;
-    let done = through::get_report(keyboard, words::low(of[1]), words::low(of[2]));
+fn get(kind: u8, id: u8, keyboard: Keyboard) -> Done {
+    let done = through::get_report(keyboard, kind, id);
     let after = done.keyboard;
     let fetched = done.got;
     let report = fetched.report;
@@ -79,20 +76,12 @@ fn leds(number: u8, keyboard: Keyboard) -> Text {
 }
 
 // `set TYPE ID HEX`
-fn set(line: &[u8], w: Words, keyboard: Keyboard) -> Done {
-    let numbers = words::read_numbers(line, w, b"bb");
-    let got = words::read_hex(words::word(line, w, 3));
-    if !numbers.read || !got.read {
+fn set(kind: u8, id: u8, bytes: Bytes, keyboard: Keyboard) -> Done {
+    if !bytes.read {
         return unread(keyboard);
     }
-    let of = numbers.of;
-    let bytes = got.bytes;
-    let done = through::set_report(
-        keyboard,
-        words::low(of[1]),
-        words::low(of[2]),
-        front(&bytes, got.len),
-    );
+    let all = bytes.bytes;
+    let done = through::set_report(keyboard, kind, id, front(&all, bytes.len));
     let after = done.keyboard;
     Done {
         keyboard: after,
@@ -101,13 +90,8 @@ fn set(line: &[u8], w: Words, keyboard: Keyboard) -> Done {
 }
 
 // `rate N`: Set_Idle.
-fn rate(line: &[u8], w: Words, keyboard: Keyboard) -> Done {
-    let numbers = words::read_numbers(line, w, b"b");
-    if !numbers.read {
-        return unread(keyboard);
-    }
-    let of = numbers.of;
-    let done = through::set_idle(keyboard, words::low(of[1]));
+fn rate(n: u8, keyboard: Keyboard) -> Done {
+    let done = through::set_idle(keyboard, n);
     let after = done.keyboard;
     Done {
         keyboard: after,
@@ -116,15 +100,10 @@ fn rate(line: &[u8], w: Words, keyboard: Keyboard) -> Done {
 }
 
 // `idling RATE COUNT`: the rate and the count as they stand, whatever the calls would make of them.
-fn idling(line: &[u8], w: Words, keyboard: Keyboard) -> Done {
-    let numbers = words::read_numbers(line, w, b"bn");
-    if !numbers.read {
-        return unread(keyboard);
-    }
-    let of = numbers.of;
+fn idling(rate: u8, count: u16, line: &[u8], keyboard: Keyboard) -> Done {
     let mut after = keyboard;
-    after.idle = words::low(of[1]);
-    after.count = words::low_word(of[2]);
+    after.idle = rate;
+    after.count = count;
     Done {
         keyboard: after,
         text: say::text(line),
@@ -166,13 +145,8 @@ fn clocks(keyboard: Keyboard, n: usize) -> Run {
 }
 
 // `clock N`: N clock calls, how many were due, and the count after them.
-fn clock(line: &[u8], w: Words, keyboard: Keyboard) -> Done {
-    let numbers = words::read_numbers(line, w, b"n");
-    if !numbers.read {
-        return unread(keyboard);
-    }
-    let of = numbers.of;
-    let run = clocks(keyboard, of[1]);
+fn clock(n: usize, keyboard: Keyboard) -> Done {
+    let run = clocks(keyboard, n);
     let after = run.keyboard;
     let count = after.count as usize;
     Done {
@@ -189,14 +163,17 @@ fn descriptor() -> Text {
     say::text(b"descriptor ").put_hex(&bytes)
 }
 
-pub fn answer(asked: Board, line: &[u8], w: Words, keyboard: Keyboard) -> Done {
+pub fn answer(asked: Board, of: [usize; 8], line: &[u8], w: Words, keyboard: Keyboard) -> Done {
+    let n = of[1];
+    let first = words::low(n);
+    let second = words::low(of[2]);
     match asked {
-        Board::Report => report(line, w, keyboard),
-        Board::Get => get(line, w, keyboard),
-        Board::Set => set(line, w, keyboard),
-        Board::Rate => rate(line, w, keyboard),
-        Board::Idling => idling(line, w, keyboard),
-        Board::Clock => clock(line, w, keyboard),
+        Board::Report => report(words::hex_at(line, w, 1), keyboard),
+        Board::Get => get(first, second, keyboard),
+        Board::Set => set(first, second, words::hex_at(line, w, 3), keyboard),
+        Board::Rate => rate(first, keyboard),
+        Board::Idling => idling(first, words::low_word(of[2]), line, keyboard),
+        Board::Clock => clock(n, keyboard),
         Board::Descriptor => Done {
             keyboard,
             text: descriptor(),

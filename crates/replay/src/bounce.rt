@@ -3,6 +3,7 @@ use super::commands::Bounce;
 use super::say;
 use super::say::FILL;
 use super::words;
+use super::words::Bytes;
 use super::words::Words;
 use debounce::Debouncer;
 use debounce::Telling;
@@ -35,15 +36,13 @@ fn refused(refusal: Refusal) -> Text {
 }
 
 // `debounce R C NB PICTURE`
-fn make(line: &[u8], w: Words, debouncer: Debouncer) -> Done {
-    let got = words::read_picture(words::word(line, w, 4));
-    let numbers = words::read_numbers(line, w, b"nnn");
-    if !got.read || !numbers.read {
+fn make(of: [usize; 8], picture: Bytes, debouncer: Debouncer) -> Done {
+    if !picture.read {
         return unread(debouncer);
     }
-    let of = numbers.of;
-    let bytes = got.bytes;
-    let made = Debouncer::new(of[1], of[2], words::low_word(of[3]), front(&bytes, got.len));
+    let bytes = picture.bytes;
+    let start = front(&bytes, picture.len);
+    let made = Debouncer::new(of[1], of[2], words::low_word(of[3]), start);
     let verdict = made.verdict;
     let after = made.debouncer;
     Done {
@@ -69,38 +68,36 @@ struct Places {
     places: [u8; 128],
 }
 
-fn picture_at(line: &[u8], w: Words, k: usize) -> Places {
-    let got = words::read_picture(words::word(line, w, k));
-    let bytes = got.bytes;
+fn places_of(picture: Bytes) -> Places {
+    let bytes = picture.bytes;
     Places {
-        read: got.read && got.len <= 128,
-        places: laid(front(&bytes, got.len)),
+        read: picture.read && picture.len <= 128,
+        places: laid(front(&bytes, picture.len)),
+    }
+}
+
+fn set_to(of: [usize; 8], cur: [u8; 128], new: [u8; 128]) -> Debouncer {
+    Debouncer {
+        cur,
+        new,
+        since: words::low_word(of[4]),
+        nb_bounce: words::low_word(of[3]),
+        rows: of[1],
+        columns: of[2],
     }
 }
 
 // `debouncer R C NB SINCE CUR NEW`: the debouncer as it stands, legal or not.
-fn set(line: &[u8], w: Words, debouncer: Debouncer) -> Done {
-    let accepted = picture_at(line, w, 5);
-    let candidate = picture_at(line, w, 6);
-    let numbers = words::read_numbers(line, w, b"nnnn");
+fn set(of: [usize; 8], line: &[u8], w: Words, debouncer: Debouncer) -> Done {
+    let accepted = places_of(words::picture_at(line, w, 5));
+    let candidate = places_of(words::picture_at(line, w, 6));
     if !accepted.read || !candidate.read {
         return unread(debouncer);
     }
-    if !numbers.read {
-        return unread(debouncer);
-    }
-    let of = numbers.of;
     let cur = accepted.places;
     let new = candidate.places;
     Done {
-        debouncer: Debouncer {
-            cur,
-            new,
-            since: words::low_word(of[4]),
-            nb_bounce: words::low_word(of[3]),
-            rows: of[1],
-            columns: of[2],
-        },
+        debouncer: set_to(of, cur, new),
         text: say::text(line),
     }
 }
@@ -113,13 +110,12 @@ fn updated(update: Update) -> Text {
 }
 
 // `update PICTURE`: whether the accepted picture changed.
-fn update(line: &[u8], w: Words, debouncer: Debouncer) -> Done {
-    let got = words::read_picture(words::word(line, w, 1));
-    if !got.read {
+fn update(picture: Bytes, debouncer: Debouncer) -> Done {
+    if !picture.read {
         return unread(debouncer);
     }
-    let bytes = got.bytes;
-    let done = debouncer.update(front(&bytes, got.len));
+    let bytes = picture.bytes;
+    let done = debouncer.update(front(&bytes, picture.len));
     let after = done.debouncer;
     let answer = done.update;
     Done {
@@ -196,21 +192,27 @@ fn scan_into(scan: &[u8], space: usize, debouncer: Debouncer) -> Done {
 }
 
 // `scan PICTURE`: the events, three bytes each.
-fn scan(line: &[u8], w: Words, space: usize, debouncer: Debouncer) -> Done {
-    let got = words::read_picture(words::word(line, w, 1));
-    if !got.read {
+fn scan(picture: Bytes, space: usize, debouncer: Debouncer) -> Done {
+    if !picture.read {
         return unread(debouncer);
     }
-    let bytes = got.bytes;
-    scan_into(front(&bytes, got.len), space, debouncer)
+    let bytes = picture.bytes;
+    scan_into(front(&bytes, picture.len), space, debouncer)
 }
 
-pub fn answer(asked: Bounce, line: &[u8], w: Words, space: usize, debouncer: Debouncer) -> Done {
+pub fn answer(
+    asked: Bounce,
+    of: [usize; 8],
+    line: &[u8],
+    w: Words,
+    space: usize,
+    debouncer: Debouncer,
+) -> Done {
     match asked {
-        Bounce::Make => make(line, w, debouncer),
-        Bounce::Set => set(line, w, debouncer),
-        Bounce::Scan => scan(line, w, space, debouncer),
-        Bounce::Update => update(line, w, debouncer),
+        Bounce::Make => make(of, words::picture_at(line, w, 4), debouncer),
+        Bounce::Set => set(of, line, w, debouncer),
+        Bounce::Scan => scan(words::picture_at(line, w, 1), space, debouncer),
+        Bounce::Update => update(words::picture_at(line, w, 1), debouncer),
         Bounce::Picture => Done {
             debouncer,
             text: picture(debouncer),

@@ -3,7 +3,6 @@ use super::commands::Call;
 use super::say;
 use super::say::FILL;
 use super::words;
-use super::words::Words;
 use event::Event;
 use layout::Acted;
 use layout::Answered;
@@ -25,7 +24,6 @@ enum Asked {
     Event(Event),
     Tick,
     Keycodes,
-    Unread,
 }
 
 // Coordinates, with a space before each.
@@ -91,7 +89,7 @@ fn called(asked: Asked, image: &[u8], layout: Layout, codes: &mut [u8]) -> Answe
     match asked {
         Asked::Event(event) => layout.event(image, event, codes),
         Asked::Tick => layout.tick(image, codes),
-        Asked::Keycodes | Asked::Unread => Answered {
+        Asked::Keycodes => Answered {
             answer: layout.keycodes(image, codes),
             layout,
         },
@@ -118,42 +116,17 @@ fn ask(asked: Asked, image: &[u8], room: usize, layout: Layout) -> Done {
     answered(asked, image, layout, &mut codes)
 }
 
-// `p I J` or `r I J`
-fn key(press: bool, line: &[u8], w: Words) -> Asked {
-    let numbers = words::read_numbers(line, w, b"bb");
-    if !numbers.read {
-        return Asked::Unread;
-    }
-    let of = numbers.of;
-    if press {
-        return Asked::Event(Event::Press(words::low(of[1]), words::low(of[2])));
-    }
-    Asked::Event(Event::Release(words::low(of[1]), words::low(of[2])))
-}
-
-fn asked_by(call: Call, line: &[u8], w: Words) -> Asked {
+fn asked_by(call: Call, i: u8, j: u8) -> Asked {
     match call {
-        Call::Press => key(true, line, w),
-        Call::Release => key(false, line, w),
+        Call::Press => Asked::Event(Event::Press(i, j)),
+        Call::Release => Asked::Event(Event::Release(i, j)),
         Call::Tick => Asked::Tick,
         Call::Keycodes => Asked::Keycodes,
     }
 }
 
-pub fn answer(
-    call: Call,
-    line: &[u8],
-    w: Words,
-    image: &[u8],
-    room: usize,
-    layout: Layout,
-) -> Done {
-    let asked = asked_by(call, line, w);
-    if let Asked::Unread = asked {
-        return Done {
-            layout,
-            text: say::unread(),
-        };
-    }
+// `p I J`, `r I J`, `t`, `k`
+pub fn answer(call: Call, of: [usize; 8], image: &[u8], room: usize, layout: Layout) -> Done {
+    let asked = asked_by(call, words::low(of[1]), words::low(of[2]));
     ask(asked, image, room, layout)
 }

@@ -12,9 +12,11 @@ mod words;
 
 use commands::Board;
 use commands::Bounce;
+use commands::Buffer;
 use commands::Call;
 use commands::Command;
 use commands::Part;
+use commands::Table;
 use debounce::Debouncer;
 use keyboard::Keyboard;
 use layout::Layout;
@@ -24,7 +26,13 @@ use talk::Place;
 use talk::Text;
 use talk::front;
 use talk::gather;
+use words::Bytes;
 use words::Words;
+
+// How much one read brings, and the longest line.
+const INPUT: usize = 65536;
+
+const LINE: usize = 32768;
 
 // What the script has made so far: how many bytes the code buffer and the event buffer have, and the image; the layout, the
 // debouncer and the keyboard.
@@ -62,110 +70,99 @@ fn start() -> Desk {
     }
 }
 
+fn said(desk: Desk, text: Text) -> Done {
+    Done { desk, text }
+}
+
 // `image HEX`: the image that later lines are given, with a fresh layout.
-fn on_image(line: &[u8], w: Words, table: &mut [u8; table::ROOM], desk: Desk) -> Done {
-    let got = words::read_hex(words::word(line, w, 1));
-    let bytes = got.bytes;
-    if !got.read {
-        return Done {
-            desk,
-            text: say::unread(),
-        };
+fn on_image(bytes: Bytes, table: &mut [u8; table::ROOM], desk: Desk) -> Done {
+    if !bytes.read {
+        return said(desk, say::unread());
     }
-    table::keep(front(&bytes, got.len), table);
+    let all = bytes.bytes;
+    let image = front(&all, bytes.len);
+    table::keep(image, table);
     let mut after = desk;
-    after.image = got.len;
+    after.image = bytes.len;
     after.layout = Layout::new();
-    Done {
-        desk: after,
-        text: table::checked(front(&bytes, got.len)),
+    said(after, table::checked(image))
+}
+
+fn on_table(
+    asked: Table,
+    line: &[u8],
+    w: Words,
+    table: &mut [u8; table::ROOM],
+    desk: Desk,
+) -> Done {
+    let bytes = words::hex_at(line, w, 1);
+    match asked {
+        Table::Codes => said(desk, table::codes(bytes)),
+        Table::Image => on_image(bytes, table, desk),
+        Table::Areas => said(desk, table::areas(bytes, words::hex_at(line, w, 2))),
     }
 }
 
-// `room N`, or `space N`.
-fn on_buffers(room: bool, line: &[u8], w: Words, desk: Desk) -> Done {
-    let numbers = words::read_numbers(line, w, b"n");
-    let of = numbers.of;
+// `room N`, `space N`
+fn on_buffer(asked: Buffer, n: usize, line: &[u8], desk: Desk) -> Done {
     let mut after = desk;
-    if !numbers.read {
-        return Done {
-            desk,
-            text: say::unread(),
-        };
+    match asked {
+        Buffer::Room => after.room = n,
+        Buffer::Space => after.space = n,
     }
-    if room {
-        after.room = of[1];
-    } else {
-        after.space = of[1];
-    }
-    Done {
-        desk: after,
-        text: say::text(line),
-    }
+    said(after, say::text(line))
 }
 
-fn on_layout(done: calls::Done, desk: Desk) -> Done {
-    let layout = done.layout;
+fn on_call(call: Call, of: [usize; 8], table: &[u8; table::ROOM], desk: Desk) -> Done {
+    let layout = desk.layout;
+    let done = calls::answer(call, of, front(table, desk.image), desk.room, layout);
+    let changed = done.layout;
     let text = done.text;
     let mut after = desk;
-    after.layout = layout;
-    Done { desk: after, text }
+    after.layout = changed;
+    said(after, text)
 }
 
-fn on_call(call: Call, line: &[u8], w: Words, table: &[u8], desk: Desk) -> Done {
-    let image = front(table, desk.image);
+fn on_part(part: Part, of: [usize; 8], line: &[u8], desk: Desk) -> Done {
     let layout = desk.layout;
-    on_layout(calls::answer(call, line, w, image, desk.room, layout), desk)
+    let mut after = desk;
+    after.layout = parts::set(part, of, layout);
+    said(after, say::text(line))
 }
 
-fn on_part(part: Part, line: &[u8], w: Words, desk: Desk) -> Done {
-    let layout = desk.layout;
-    on_layout(parts::answer(part, line, w, layout), desk)
-}
-
-fn on_bounce(asked: Bounce, line: &[u8], w: Words, desk: Desk) -> Done {
+fn on_bounce(asked: Bounce, of: [usize; 8], line: &[u8], w: Words, desk: Desk) -> Done {
     let debouncer = desk.debouncer;
-    let done = bounce::answer(asked, line, w, desk.space, debouncer);
+    let done = bounce::answer(asked, of, line, w, desk.space, debouncer);
     let changed = done.debouncer;
     let text = done.text;
     let mut after = desk;
     after.debouncer = changed;
-    Done { desk: after, text }
+    said(after, text)
 }
 
-fn on_board(asked: Board, line: &[u8], w: Words, desk: Desk) -> Done {
+fn on_board(asked: Board, of: [usize; 8], line: &[u8], w: Words, desk: Desk) -> Done {
     let keyboard = desk.keyboard;
-    let done = board::answer(asked, line, w, keyboard);
+    let done = board::answer(asked, of, line, w, keyboard);
     let changed = done.keyboard;
     let text = done.text;
     let mut after = desk;
     after.keyboard = changed;
-    Done { desk: after, text }
+    said(after, text)
 }
 
 fn answer(line: &[u8], table: &mut [u8; table::ROOM], desk: Desk) -> Done {
     let w = words::split(line);
-    let command = commands::read(line, w);
+    let asked = commands::read(line, w);
+    let of = asked.of;
+    let command = asked.command;
     match command {
-        Command::Codes => Done {
-            desk,
-            text: table::codes(line, w),
-        },
-        Command::Areas => Done {
-            desk,
-            text: table::areas(line, w),
-        },
-        Command::Image => on_image(line, w, table, desk),
-        Command::Room => on_buffers(true, line, w, desk),
-        Command::Space => on_buffers(false, line, w, desk),
-        Command::Call(call) => on_call(call, line, w, table, desk),
-        Command::Part(part) => on_part(part, line, w, desk),
-        Command::Bounce(asked) => on_bounce(asked, line, w, desk),
-        Command::Board(asked) => on_board(asked, line, w, desk),
-        Command::Unread => Done {
-            desk,
-            text: say::unread(),
-        },
+        Command::Table(asked) => on_table(asked, line, w, table, desk),
+        Command::Buffer(asked) => on_buffer(asked, of[1], line, desk),
+        Command::Call(call) => on_call(call, of, table, desk),
+        Command::Part(part) => on_part(part, of, line, desk),
+        Command::Bounce(asked) => on_bounce(asked, of, line, w, desk),
+        Command::Board(asked) => on_board(asked, of, line, w, desk),
+        Command::Unread => said(desk, say::unread()),
     }
 }
 
@@ -176,58 +173,66 @@ fn write(text: Text) {
 }
 
 // One read of standard input. A read that fails is the end of it.
-fn refill(input: &mut [u8], place: Place) -> Place {
+fn refill(input: &mut [u8; INPUT], place: Place) -> Place {
     let got = libc::read(STDIN_FILENO, input);
     place.filled(io::count(got, input))
 }
 
 // A part of a line, up to its end if that is here; or a read, where all that was here is taken.
-fn advance(input: &mut [u8], line: &mut [u8], place: Place) -> Place {
+fn advance(input: &mut [u8; INPUT], line: &mut [u8; LINE], place: Place) -> Place {
     if place.end <= place.at {
         return refill(input, place);
     }
     gather(input, line, place)
 }
 
-// A step of reading, and the answer to the line that is held, where it ended.
-fn step(
-    input: &mut [u8],
-    line: &mut [u8],
-    table: &mut [u8; table::ROOM],
-    desk: Desk,
-    place: Place,
-) -> Stand {
-    let next = advance(input, line, place);
-    if !next.ended {
-        return Stand { desk, place: next };
-    }
-    let done = answer(front(line, next.held), table, desk);
-    let after = done.desk;
+// The answer to the line that is held.
+fn reply(line: &[u8; LINE], held: usize, table: &mut [u8; table::ROOM], desk: Desk) -> Desk {
+    let done = answer(front(line, held), table, desk);
     let text = done.text;
     write(text.put(b'\n'));
+    done.desk
+}
+
+// A step of reading, and the answer to the line that is held, where it ended.
+fn step(
+    input: &mut [u8; INPUT],
+    line: &mut [u8; LINE],
+    table: &mut [u8; table::ROOM],
+    now: Stand,
+) -> Stand {
+    let desk = now.desk;
+    let before = now.place;
+    let place = advance(input, line, before);
+    if !place.ended {
+        return Stand { desk, place };
+    }
     Stand {
-        desk: after,
-        place: next.answered(),
+        desk: reply(line, place.held, table, desk),
+        place: place.answered(),
     }
 }
 
 // Answers lines to the end of the input. Nothing says that it has one, so the loop counts its turns down from a number
 // that no run uses up.
-fn run(input: &mut [u8], line: &mut [u8], table: &mut [u8; table::ROOM]) {
-    let mut desk = start();
-    let mut place = Place::start();
+fn run(input: &mut [u8; INPUT], line: &mut [u8; LINE], table: &mut [u8; table::ROOM]) {
+    let mut now = Stand {
+        desk: start(),
+        place: Place::start(),
+    };
     let mut turns = u64::MAX;
-    while turns > 0 && !place.over {
-        let now = step(input, line, table, desk, place);
-        desk = now.desk;
-        place = now.place;
+    let mut over = false;
+    while turns > 0 && !over {
+        now = step(input, line, table, now);
+        let place = now.place;
+        over = place.over;
         turns -= 1;
     }
 }
 
 fn main() {
-    let mut input = io::large_buffer();
-    let mut line = [0u8; 32768];
+    let mut input = [0u8; INPUT];
+    let mut line = [0u8; LINE];
     let mut table = [0u8; table::ROOM];
     run(&mut input, &mut line, &mut table);
 }

@@ -1,11 +1,7 @@
 // The lines that set a part of the layout as it stands, legal or not: `default`, `counts`, `state`, `queue`, `wait`,
-// `idle`. The answer is the line itself. Assumes nothing.
-use super::calls::Done;
+// `idle`. Assumes nothing.
 use super::commands::Part;
-use super::say;
 use super::words;
-use super::words::Numbers;
-use super::words::Words;
 use event::Coord;
 use event::Event;
 use layout::Layout;
@@ -15,45 +11,6 @@ use layout::State;
 use layout::Waiting;
 use layout::WaitingState;
 
-fn unread(layout: Layout) -> Done {
-    Done {
-        layout,
-        text: say::unread(),
-    }
-}
-
-fn set(layout: Layout, line: &[u8]) -> Done {
-    Done {
-        layout,
-        text: say::text(line),
-    }
-}
-
-// `default N`
-fn default_layer(line: &[u8], w: Words, layout: Layout) -> Done {
-    let numbers = words::read_numbers(line, w, b"n");
-    if !numbers.read {
-        return unread(layout);
-    }
-    let of = numbers.of;
-    let mut out = layout;
-    out.default_layer = of[1];
-    set(out, line)
-}
-
-// `counts STATES QUEUED`
-fn counts(line: &[u8], w: Words, layout: Layout) -> Done {
-    let numbers = words::read_numbers(line, w, b"nn");
-    if !numbers.read {
-        return unread(layout);
-    }
-    let of = numbers.of;
-    let mut out = layout;
-    out.len = of[1];
-    out.queued = of[2];
-    set(out, line)
-}
-
 fn coord_of(i: usize, j: usize) -> Coord {
     Coord {
         i: words::low(i),
@@ -61,89 +18,66 @@ fn coord_of(i: usize, j: usize) -> Coord {
     }
 }
 
-fn slot_of(layer: bool, value: usize, coord: Coord) -> Slot {
-    if layer {
-        return Slot {
-            state: State::LayerModifier {
-                value: words::low_word(value),
-                coord,
-            },
-        };
-    }
-    Slot {
-        state: State::NormalKey {
-            keycode: words::low(value),
-            coord,
-        },
-    }
-}
-
-// The numbers of a state: a layer's is any number, a key's code a byte.
-fn state_numbers(line: &[u8], w: Words, layer: bool) -> Numbers {
-    if layer {
-        return words::read_numbers(line, w, b"n nbb");
-    }
-    if words::is(words::word(line, w, 2), b"key") {
-        return words::read_numbers(line, w, b"n bbb");
-    }
-    Numbers {
-        read: false,
-        of: [0; 8],
-    }
-}
-
-// `state K key CODE I J` or `state K layer N I J`
-fn state(line: &[u8], w: Words, layout: Layout) -> Done {
-    let layer = words::is(words::word(line, w, 2), b"layer");
-    let numbers = state_numbers(line, w, layer);
-    if !numbers.read {
-        return unread(layout);
-    }
-    let of = numbers.of;
-    let k = of[1];
-    if Layout::STATES <= k {
-        return unread(layout);
-    }
+// `default N`
+fn with_default(layout: Layout, n: usize) -> Layout {
     let mut out = layout;
-    out.states[k] = slot_of(layer, of[3], coord_of(of[4], of[5]));
-    set(out, line)
+    out.default_layer = n;
+    out
 }
 
-fn stacked_of(press: bool, i: u8, j: u8, since: u16) -> Stacked {
+// `counts STATES QUEUED`
+fn with_counts(layout: Layout, states: usize, queued: usize) -> Layout {
+    let mut out = layout;
+    out.len = states;
+    out.queued = queued;
+    out
+}
+
+// `state K key CODE I J`, `state K layer N I J`
+fn with_state(layout: Layout, k: usize, state: State) -> Layout {
+    let mut out = layout;
+    if k < Layout::STATES {
+        out.states[k] = Slot { state };
+    }
+    out
+}
+
+fn key_of(of: [usize; 8]) -> State {
+    State::NormalKey {
+        keycode: words::low(of[3]),
+        coord: coord_of(of[4], of[5]),
+    }
+}
+
+fn layer_of(of: [usize; 8]) -> State {
+    State::LayerModifier {
+        value: words::low_word(of[3]),
+        coord: coord_of(of[4], of[5]),
+    }
+}
+
+// `queue K p I J AGE`, `queue K r I J AGE`
+fn with_queued(layout: Layout, k: usize, event: Event, since: u16) -> Layout {
+    let mut out = layout;
+    if k < Layout::QUEUE {
+        out.stacked[k] = Stacked { event, since };
+    }
+    out
+}
+
+fn event_of(press: bool, i: u8, j: u8) -> Event {
     if press {
-        return Stacked {
-            event: Event::Press(i, j),
-            since,
-        };
+        return Event::Press(i, j);
     }
-    Stacked {
-        event: Event::Release(i, j),
-        since,
-    }
+    Event::Release(i, j)
 }
 
-// `queue K p I J AGE` or `queue K r I J AGE`
-fn queue(line: &[u8], w: Words, layout: Layout) -> Done {
-    let way = words::place_in(b"p r", words::word(line, w, 2));
-    let numbers = words::read_numbers(line, w, b"n bbn");
-    if !numbers.read || 1 < way {
-        return unread(layout);
-    }
-    let of = numbers.of;
-    let k = of[1];
-    if Layout::QUEUE <= k {
-        return unread(layout);
-    }
-    let mut out = layout;
-    out.stacked[k] = stacked_of(
-        way == 0,
-        words::low(of[3]),
-        words::low(of[4]),
-        words::low_word(of[5]),
-    );
-    set(out, line)
+fn queued(press: bool, of: [usize; 8], layout: Layout) -> Layout {
+    let event = event_of(press, words::low(of[3]), words::low(of[4]));
+    with_queued(layout, of[1], event, words::low_word(of[5]))
 }
 
+// `wait I J LEFT RECORD`, `idle`
 fn with_waiting(layout: Layout, waiting: Waiting) -> Layout {
     let states = layout.states;
     let stacked = layout.stacked;
@@ -157,28 +91,23 @@ fn with_waiting(layout: Layout, waiting: Waiting) -> Layout {
     }
 }
 
-// `wait I J LEFT RECORD`
-fn wait(line: &[u8], w: Words, layout: Layout) -> Done {
-    let numbers = words::read_numbers(line, w, b"bbnn");
-    if !numbers.read {
-        return unread(layout);
-    }
-    let of = numbers.of;
-    let waiting = WaitingState {
+fn waiting_of(of: [usize; 8]) -> Waiting {
+    Waiting::On(WaitingState {
         coord: coord_of(of[1], of[2]),
         left: words::low_word(of[3]),
         number: words::low_word(of[4]),
-    };
-    set(with_waiting(layout, Waiting::On(waiting)), line)
+    })
 }
 
-pub fn answer(part: Part, line: &[u8], w: Words, layout: Layout) -> Done {
+pub fn set(part: Part, of: [usize; 8], layout: Layout) -> Layout {
     match part {
-        Part::Default => default_layer(line, w, layout),
-        Part::Counts => counts(line, w, layout),
-        Part::State => state(line, w, layout),
-        Part::Queue => queue(line, w, layout),
-        Part::Wait => wait(line, w, layout),
-        Part::Idle => set(with_waiting(layout, Waiting::Nothing), line),
+        Part::Default => with_default(layout, of[1]),
+        Part::Counts => with_counts(layout, of[1], of[2]),
+        Part::Key => with_state(layout, of[1], key_of(of)),
+        Part::Layer => with_state(layout, of[1], layer_of(of)),
+        Part::Pressed => queued(true, of, layout),
+        Part::Released => queued(false, of, layout),
+        Part::Wait => with_waiting(layout, waiting_of(of)),
+        Part::Idle => with_waiting(layout, Waiting::Nothing),
     }
 }

@@ -1,7 +1,6 @@
 // The lines of codes and of the table image: `codes`, `image`, `areas`. Assumes nothing.
 use super::say;
-use super::words;
-use super::words::Words;
+use super::words::Bytes;
 use codes::KbHidReport;
 use image::Checked;
 use image::Source;
@@ -12,15 +11,14 @@ use talk::front;
 pub const ROOM: usize = 16384;
 
 // `codes HEX`: the report of these codes.
-pub fn codes(line: &[u8], w: Words) -> Text {
-    let got = words::read_hex(words::word(line, w, 1));
-    if !got.read {
+pub fn codes(bytes: Bytes) -> Text {
+    if !bytes.read {
         return say::unread();
     }
-    let bytes = got.bytes;
-    let report = KbHidReport::from_codes(&bytes, got.len);
-    let all = report.bytes;
-    Text::new().put_hex(&all)
+    let all = bytes.bytes;
+    let report = KbHidReport::from_codes(&all, bytes.len);
+    let report_bytes = report.bytes;
+    Text::new().put_hex(&report_bytes)
 }
 
 // Whether an image is accepted.
@@ -60,13 +58,8 @@ fn in_use<'a>(operator: &'a [u8], built_in: &'a [u8]) -> Text {
 }
 
 // `areas HEX HEX`: the operator's area and the built-in one.
-pub fn areas(line: &[u8], w: Words) -> Text {
-    let operator = words::read_hex(words::word(line, w, 1));
-    let built_in = words::read_hex(words::word(line, w, 2));
-    if !operator.read {
-        return say::unread();
-    }
-    if !built_in.read {
+pub fn areas(operator: Bytes, built_in: Bytes) -> Text {
+    if !operator.read || !built_in.read {
         return say::unread();
     }
     let first = operator.bytes;

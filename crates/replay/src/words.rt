@@ -2,10 +2,10 @@
 // Everything is read strictly (docs/REPLAY.md). Assumes nothing.
 ghost use mathlib.Core.Path.{_≡_};
 
-// Where the words of a line end. A line of more than ten words has none.
+// Where the words of a line end. A line of more than twenty words has none.
 pub struct Words {
     pub count: usize,
-    pub ends: [usize; 10],
+    pub ends: [usize; 20],
 }
 
 // What a word of hex or a picture says.
@@ -13,12 +13,6 @@ pub struct Bytes {
     pub read: bool,
     pub len: usize,
     pub bytes: [u8; 32768],
-}
-
-// The numbers of a line, each at its word's place, and whether all of them could be read.
-pub struct Numbers {
-    pub read: bool,
-    pub of: [usize; 8],
 }
 
 // The byte that two hex digits spell.
@@ -30,7 +24,7 @@ enum Pair {
 pub fn split(line: &[u8]) -> Words {
     let mut words = Words {
         count: 0,
-        ends: [0; 10],
+        ends: [0; 20],
     };
     let mut i = 0;
     while i < line.len() {
@@ -42,22 +36,22 @@ pub fn split(line: &[u8]) -> Words {
     with_end(words, line.len())
 }
 
-// One word more; past the tenth there is no reading the line, and the count stays past it.
+// One word more; past the twentieth there is no reading the line, and the count stays past it.
 fn with_end(words: Words, end: usize) -> Words {
     let n = words.count;
     let mut out = words;
-    if n < 10 {
+    if n < 20 {
         out.ends[n] = end;
         out.count = n + 1;
     } else {
-        out.count = 11;
+        out.count = 21;
     }
     out
 }
 
 // Word k of a line, empty where there is none.
 pub fn word(line: &[u8], words: Words, k: usize) -> &[u8] {
-    if 10 <= k {
+    if 20 <= k {
         return &line[..0];
     }
     let ends = words.ends;
@@ -69,11 +63,11 @@ pub fn word(line: &[u8], words: Words, k: usize) -> &[u8] {
     &line[..0]
 }
 
-fn start_of(ends: [usize; 10], k: usize) -> usize {
+fn start_of(ends: [usize; 20], k: usize) -> usize {
     if k == 0 {
         return 0;
     }
-    if 10 < k {
+    if 20 < k {
         return 0;
     }
     let space = ends[k - 1];
@@ -95,17 +89,16 @@ pub fn is(word: &[u8], other: &[u8]) -> bool {
     true
 }
 
-// The place of a word among some, parted by single spaces; 10 where it is none of them.
-pub fn place_in(some: &[u8], sought: &[u8]) -> usize {
-    let words = split(some);
+// The place of a word among the words of a line; 20 where it is none of them.
+pub fn place_of(sought: &[u8], line: &[u8], w: Words) -> usize {
     let mut k = 0;
-    while k < 10 {
-        if is(word(some, words, k), sought) {
+    while k < 20 {
+        if is(word(line, w, k), sought) {
             return k;
         }
         k += 1;
     }
-    10
+    20
 }
 
 // The value of a hex digit, 16 where it is none.
@@ -131,6 +124,14 @@ fn pair_of(first: u8, second: u8) -> Pair {
     Pair::Byte(high * 16 + low)
 }
 
+// The byte that digits 2 k and 2 k + 1 of a word spell.
+fn pair_at(word: &[u8], k: usize) -> Pair {
+    if word.len() / 2 <= k {
+        return Pair::Unread;
+    }
+    pair_of(word[2 * k], word[2 * k + 1])
+}
+
 fn no_bytes(read: bool) -> Bytes {
     Bytes {
         read,
@@ -143,22 +144,35 @@ fn is_none(word: &[u8]) -> bool {
     word.len() == 1 && word[0] == b'-'
 }
 
-// Two hex digits a byte; `-` is the word of no byte.
-pub fn read_hex(word: &[u8]) -> Bytes {
-    if is_none(word) {
-        return no_bytes(true);
-    }
+// Two hex digits a byte.
+fn read_hex(word: &[u8]) -> Bytes {
     let len = word.len() / 2;
-    if len == 0 || word.len() % 2 != 0 {
-        return no_bytes(false);
-    }
     let mut bytes = [0u8; 32768];
     let mut i = 0;
-    while i < len && i < 32768 {
-        let Pair::Byte(b) = pair_of(word[2 * i], word[2 * i + 1]) else {
+    while i < 32768 && i < len {
+        let Pair::Byte(b) = pair_at(word, i) else {
             return no_bytes(false);
         };
         bytes[i] = b;
+        i += 1;
+    }
+    Bytes {
+        read: word.len() % 2 == 0,
+        len: i,
+        bytes,
+    }
+}
+
+// A decimal digit a byte.
+fn read_picture(word: &[u8]) -> Bytes {
+    let mut bytes = [0u8; 32768];
+    let mut i = 0;
+    while i < 32768 && i < word.len() {
+        let d = digit(word[i]);
+        if 9 < d {
+            return no_bytes(false);
+        }
+        bytes[i] = d;
         i += 1;
     }
     Bytes {
@@ -168,26 +182,27 @@ pub fn read_hex(word: &[u8]) -> Bytes {
     }
 }
 
-// A decimal digit a byte; `-` is the picture of no byte.
-pub fn read_picture(word: &[u8]) -> Bytes {
+// What word k says in hex, or as a picture. `-` is no byte, and an empty word says nothing.
+pub fn hex_at(line: &[u8], w: Words, k: usize) -> Bytes {
+    let word = word(line, w, k);
     if is_none(word) {
         return no_bytes(true);
     }
-    let mut bytes = [0u8; 32768];
-    let mut i = 0;
-    while i < word.len() && i < 32768 {
-        let d = digit(word[i]);
-        if 9 < d {
-            return no_bytes(false);
-        }
-        bytes[i] = d;
-        i += 1;
+    if word.len() == 0 {
+        return no_bytes(false);
     }
-    Bytes {
-        read: 0 < i,
-        len: i,
-        bytes,
+    read_hex(word)
+}
+
+pub fn picture_at(line: &[u8], w: Words, k: usize) -> Bytes {
+    let word = word(line, w, k);
+    if is_none(word) {
+        return no_bytes(true);
     }
+    if word.len() == 0 {
+        return no_bytes(false);
+    }
+    read_picture(word)
 }
 
 // A decimal number of one to five digits, up to 65,535; past that where the word is none.
@@ -216,33 +231,42 @@ fn with_digit(n: usize, c: u8) -> usize {
     if 65535 < more { 65536 } else { more }
 }
 
-// A word as a kind says: `n` a number; `b` one of at most three digits, up to 255; any other kind is not looked at.
-fn number_as(kind: u8, word: &[u8]) -> usize {
-    if kind == b'n' {
-        return number(word);
+// The largest number of a kind: `n` any, `b` a byte, `s` and `q` the place of a state and of a queued event.
+fn largest(kind: u8) -> usize {
+    match kind {
+        b'b' => 255,
+        b's' => 63,
+        b'q' => 15,
+        _ => 65535,
     }
-    if kind != b'b' {
-        return 0;
-    }
-    let n = number(word);
-    if 3 < word.len() || 255 < n {
-        return 65536;
-    }
-    n
 }
 
-// The words after the first, by a letter of `kinds` each.
-pub fn read_numbers(line: &[u8], w: Words, kinds: &[u8]) -> Numbers {
+// A word as its kind says; a byte has at most three digits. A word of kind `-` is no number, and is not looked at.
+fn number_as(kind: u8, word: &[u8]) -> usize {
+    if kind == b'-' {
+        return 0;
+    }
+    if kind == b'b' && 3 < word.len() {
+        return 65536;
+    }
+    let n = number(word);
+    if largest(kind) < n { 65536 } else { n }
+}
+
+// The words after the first, each as the letter of `kinds` says that stands for it. One that cannot be read makes the first
+// of the answer 1.
+pub fn read_numbers(line: &[u8], w: Words, kinds: &[u8]) -> [usize; 8] {
     let mut of = [0usize; 8];
-    let mut read = true;
     let mut k = 0;
     while k < 7 && k < kinds.len() {
         let n = number_as(kinds[k], word(line, w, k + 1));
         of[k + 1] = n;
-        read = read && n <= 65535;
+        if 65535 < n {
+            of[0] = 1;
+        }
         k += 1;
     }
-    Numbers { read, of }
+    of
 }
 
 pub fn wide(d: u8) -> usize

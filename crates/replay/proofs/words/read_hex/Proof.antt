@@ -1,15 +1,14 @@
--- `replay::words::read_hex` is safe and ends: twice as many digits are there. Assumes nothing.
+-- `replay::words::read_hex` is safe and ends. Assumes nothing.
 use borrow.Author.Needs.{needs}
-use Prim.Native.Nat.{_*_, _-_, _≤_}
-use lib.ListN.{length}
+use Prim.Native.Nat.{_-_, _≤_}
 use Rattle.replay.proofs.words.read_hex.Statement.{statement}
 use Rattle.replay.proofs.words.read_hex.Tie as tie
 
 abbrev Inv-loop : tie.InvT-loop
-Inv-loop word len bytes₀ i₀ bytes i = (i ≤ len) × (2 * len ≤ length word)
+Inv-loop word len bytes₀ i₀ bytes i = i ≤ 32768
 
 abbrev μ-loop : tie.MeasureT-loop
-μ-loop word len bytes₀ i₀ bytes i = len - i
+μ-loop word len bytes₀ i₀ bytes i = 32768 - i
 
 pub read-hex-spec : {M : Type 1} → statement M
 read-hex-spec =
@@ -17,22 +16,11 @@ read-hex-spec =
     (tie.spec
     Inv-loop
     μ-loop
-    (λ c κs. search needs)
-    (λ c κs. search needs)
-    (λ c. search needs)
-    (λ c κs. search needs)
-    (λ c. search needs)
-    (λ c. search needs)
-    (λ c. search needs)
-    (λ c. search needs)
-    (λ c. search needs)
-    (λ c. search needs)
     (λ c. search needs)
     (λ c κs. search needs)
     (λ c. search needs)
     (λ c. search needs)
     (λ c κs. search needs)
-    (λ c. search needs)
     (λ c. search needs)
     (λ c. search needs)
     (λ c. search needs)
