@@ -5,7 +5,6 @@ use super::commands::Board;
 use super::say;
 use super::words;
 use super::words::Bytes;
-use super::words::Words;
 use codes::KbHidReport;
 use keyboard::Clocked;
 use keyboard::Keyboard;
@@ -163,14 +162,14 @@ fn descriptor() -> Text {
     say::text(b"descriptor ").put_hex(&bytes)
 }
 
-pub fn answer(asked: Board, of: [usize; 8], line: &[u8], w: Words, keyboard: Keyboard) -> Done {
+pub fn answer(asked: Board, of: [usize; 8], line: &[u8], keyboard: Keyboard) -> Done {
     let n = of[1];
     let first = words::low(n);
     let second = words::low(of[2]);
     match asked {
-        Board::Report => report(words::hex_at(line, w, 1), keyboard),
+        Board::Report => report(words::hex_at(line, 1), keyboard),
         Board::Get => get(first, second, keyboard),
-        Board::Set => set(first, second, words::hex_at(line, w, 3), keyboard),
+        Board::Set => set(first, second, words::hex_at(line, 3), keyboard),
         Board::Rate => rate(first, keyboard),
         Board::Idling => idling(first, words::low_word(of[2]), line, keyboard),
         Board::Clock => clock(n, keyboard),

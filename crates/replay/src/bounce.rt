@@ -4,7 +4,6 @@ use super::say;
 use super::say::FILL;
 use super::words;
 use super::words::Bytes;
-use super::words::Words;
 use debounce::Debouncer;
 use debounce::Telling;
 use debounce::Update;
@@ -88,9 +87,9 @@ fn set_to(of: [usize; 8], cur: [u8; 128], new: [u8; 128]) -> Debouncer {
 }
 
 // `debouncer R C NB SINCE CUR NEW`: the debouncer as it stands, legal or not.
-fn set(of: [usize; 8], line: &[u8], w: Words, debouncer: Debouncer) -> Done {
-    let accepted = places_of(words::picture_at(line, w, 5));
-    let candidate = places_of(words::picture_at(line, w, 6));
+fn set(of: [usize; 8], line: &[u8], debouncer: Debouncer) -> Done {
+    let accepted = places_of(words::picture_at(line, 5));
+    let candidate = places_of(words::picture_at(line, 6));
     if !accepted.read || !candidate.read {
         return unread(debouncer);
     }
@@ -204,15 +203,14 @@ pub fn answer(
     asked: Bounce,
     of: [usize; 8],
     line: &[u8],
-    w: Words,
     space: usize,
     debouncer: Debouncer,
 ) -> Done {
     match asked {
-        Bounce::Make => make(of, words::picture_at(line, w, 4), debouncer),
-        Bounce::Set => set(of, line, w, debouncer),
-        Bounce::Scan => scan(words::picture_at(line, w, 1), space, debouncer),
-        Bounce::Update => update(words::picture_at(line, w, 1), debouncer),
+        Bounce::Make => make(of, words::picture_at(line, 4), debouncer),
+        Bounce::Set => set(of, line, debouncer),
+        Bounce::Scan => scan(words::picture_at(line, 1), space, debouncer),
+        Bounce::Update => update(words::picture_at(line, 1), debouncer),
         Bounce::Picture => Done {
             debouncer,
             text: picture(debouncer),

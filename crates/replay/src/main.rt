@@ -27,7 +27,6 @@ use talk::Text;
 use talk::front;
 use talk::gather;
 use words::Bytes;
-use words::Words;
 
 // How much one read brings, and the longest line.
 const INPUT: usize = 65536;
@@ -88,18 +87,12 @@ fn on_image(bytes: Bytes, table: &mut [u8; table::ROOM], desk: Desk) -> Done {
     said(after, table::checked(image))
 }
 
-fn on_table(
-    asked: Table,
-    line: &[u8],
-    w: Words,
-    table: &mut [u8; table::ROOM],
-    desk: Desk,
-) -> Done {
-    let bytes = words::hex_at(line, w, 1);
+fn on_table(asked: Table, line: &[u8], table: &mut [u8; table::ROOM], desk: Desk) -> Done {
+    let bytes = words::hex_at(line, 1);
     match asked {
         Table::Codes => said(desk, table::codes(bytes)),
         Table::Image => on_image(bytes, table, desk),
-        Table::Areas => said(desk, table::areas(bytes, words::hex_at(line, w, 2))),
+        Table::Areas => said(desk, table::areas(bytes, words::hex_at(line, 2))),
     }
 }
 
@@ -130,9 +123,9 @@ fn on_part(part: Part, of: [usize; 8], line: &[u8], desk: Desk) -> Done {
     said(after, say::text(line))
 }
 
-fn on_bounce(asked: Bounce, of: [usize; 8], line: &[u8], w: Words, desk: Desk) -> Done {
+fn on_bounce(asked: Bounce, of: [usize; 8], line: &[u8], desk: Desk) -> Done {
     let debouncer = desk.debouncer;
-    let done = bounce::answer(asked, of, line, w, desk.space, debouncer);
+    let done = bounce::answer(asked, of, line, desk.space, debouncer);
     let changed = done.debouncer;
     let text = done.text;
     let mut after = desk;
@@ -140,9 +133,9 @@ fn on_bounce(asked: Bounce, of: [usize; 8], line: &[u8], w: Words, desk: Desk) -
     said(after, text)
 }
 
-fn on_board(asked: Board, of: [usize; 8], line: &[u8], w: Words, desk: Desk) -> Done {
+fn on_board(asked: Board, of: [usize; 8], line: &[u8], desk: Desk) -> Done {
     let keyboard = desk.keyboard;
-    let done = board::answer(asked, of, line, w, keyboard);
+    let done = board::answer(asked, of, line, keyboard);
     let changed = done.keyboard;
     let text = done.text;
     let mut after = desk;
@@ -151,17 +144,16 @@ fn on_board(asked: Board, of: [usize; 8], line: &[u8], w: Words, desk: Desk) -> 
 }
 
 fn answer(line: &[u8], table: &mut [u8; table::ROOM], desk: Desk) -> Done {
-    let w = words::split(line);
-    let asked = commands::read(line, w);
+    let asked = commands::read(line);
     let of = asked.of;
     let command = asked.command;
     match command {
-        Command::Table(asked) => on_table(asked, line, w, table, desk),
+        Command::Table(asked) => on_table(asked, line, table, desk),
         Command::Buffer(asked) => on_buffer(asked, of[1], line, desk),
         Command::Call(call) => on_call(call, of, table, desk),
         Command::Part(part) => on_part(part, of, line, desk),
-        Command::Bounce(asked) => on_bounce(asked, of, line, w, desk),
-        Command::Board(asked) => on_board(asked, of, line, w, desk),
+        Command::Bounce(asked) => on_bounce(asked, of, line, desk),
+        Command::Board(asked) => on_board(asked, of, line, desk),
         Command::Unread => said(desk, say::unread()),
     }
 }

@@ -1,12 +1,8 @@
 // The words of a script's line, parted by single spaces, and what they say: numbers, bytes in hex, a picture.
 // Everything is read strictly (docs/REPLAY.md). Assumes nothing.
+ghost use Prim.Native.Nat.{_≤_};
 ghost use mathlib.Core.Path.{_≡_};
-
-// Where the words of a line end. A line of more than twenty words has none.
-pub struct Words {
-    pub count: usize,
-    pub ends: [usize; 20],
-}
+ghost use lib.ListN.{length};
 
 // What a word of hex or a picture says.
 pub struct Bytes {
@@ -21,57 +17,61 @@ enum Pair {
     Unread,
 }
 
-pub fn split(line: &[u8]) -> Words {
-    let mut words = Words {
-        count: 0,
-        ends: [0; 20],
-    };
-    let mut i = 0;
+// Where the word ends that begins here: at its space, or where the line does.
+fn word_end(line: &[u8], from: usize) -> usize
+    requires { ⌜ from ≤ length (now line) ⌝ }
+    ensures { λ r. ⌜ (from ≤ r) × (r ≤ length (now (line .entry))) ⌝ }
+{
+    let mut i = from;
     while i < line.len() {
         if line[i] == b' ' {
-            words = with_end(words, i);
+            return i;
         }
         i += 1;
     }
-    with_end(words, line.len())
+    i
 }
 
-// One word more; past the twentieth there is no reading the line, and the count stays past it.
-fn with_end(words: Words, end: usize) -> Words {
-    let n = words.count;
-    let mut out = words;
-    if n < 20 {
-        out.ends[n] = end;
-        out.count = n + 1;
-    } else {
-        out.count = 21;
+// The word that begins at a place of a line, empty past its end.
+pub fn word_from(line: &[u8], from: usize) -> &[u8] {
+    if line.len() < from {
+        return &line[..0];
     }
-    out
+    let end = word_end(line, from);
+    &line[from..end]
+}
+
+// Where word k of a line begins; its end where there is none.
+fn start_of(line: &[u8], k: usize) -> usize {
+    let mut left = k;
+    let mut i = 0;
+    while i < line.len() && 0 < left {
+        if line[i] == b' ' {
+            left -= 1;
+        }
+        i += 1;
+    }
+    i
 }
 
 // Word k of a line, empty where there is none.
-pub fn word(line: &[u8], words: Words, k: usize) -> &[u8] {
-    if 20 <= k {
-        return &line[..0];
-    }
-    let ends = words.ends;
-    let end = ends[k];
-    let start = start_of(ends, k);
-    if start <= end && end <= line.len() {
-        return &line[start..end];
-    }
-    &line[..0]
+pub fn word(line: &[u8], k: usize) -> &[u8] {
+    word_from(line, start_of(line, k))
 }
 
-fn start_of(ends: [usize; 20], k: usize) -> usize {
-    if k == 0 {
-        return 0;
+// How many words a line has after its first; 8 where there are more, which is more than any command has.
+pub fn further(line: &[u8]) -> usize {
+    let mut n = 0;
+    let mut i = 0;
+    while i < line.len() {
+        n = with_space(n, line[i]);
+        i += 1;
     }
-    if 20 < k {
-        return 0;
-    }
-    let space = ends[k - 1];
-    if space < usize::MAX { space + 1 } else { 0 }
+    n
+}
+
+fn with_space(n: usize, c: u8) -> usize {
+    if n < 8 && c == b' ' { n + 1 } else { n }
 }
 
 // Whether two words are the same.
@@ -87,18 +87,6 @@ pub fn is(word: &[u8], other: &[u8]) -> bool {
         i += 1;
     }
     true
-}
-
-// The place of a word among the words of a line; 20 where it is none of them.
-pub fn place_of(sought: &[u8], line: &[u8], w: Words) -> usize {
-    let mut k = 0;
-    while k < 20 {
-        if is(word(line, w, k), sought) {
-            return k;
-        }
-        k += 1;
-    }
-    20
 }
 
 // The value of a hex digit, 16 where it is none.
@@ -183,8 +171,8 @@ fn read_picture(word: &[u8]) -> Bytes {
 }
 
 // What word k says in hex, or as a picture. `-` is no byte, and an empty word says nothing.
-pub fn hex_at(line: &[u8], w: Words, k: usize) -> Bytes {
-    let word = word(line, w, k);
+pub fn hex_at(line: &[u8], k: usize) -> Bytes {
+    let word = word(line, k);
     if is_none(word) {
         return no_bytes(true);
     }
@@ -194,8 +182,8 @@ pub fn hex_at(line: &[u8], w: Words, k: usize) -> Bytes {
     read_hex(word)
 }
 
-pub fn picture_at(line: &[u8], w: Words, k: usize) -> Bytes {
-    let word = word(line, w, k);
+pub fn picture_at(line: &[u8], k: usize) -> Bytes {
+    let word = word(line, k);
     if is_none(word) {
         return no_bytes(true);
     }
@@ -231,7 +219,7 @@ fn with_digit(n: usize, c: u8) -> usize {
     if 65535 < more { 65536 } else { more }
 }
 
-// The largest number of a kind: `n` any, `b` a byte, `s` and `q` the place of a state and of a queued event.
+// The largest number of a kind: a byte, the place of a state and of a queued event; else any.
 fn largest(kind: u8) -> usize {
     match kind {
         b'b' => 255,
@@ -241,11 +229,7 @@ fn largest(kind: u8) -> usize {
     }
 }
 
-// A word as its kind says; a byte has at most three digits. A word of kind `-` is no number, and is not looked at.
 fn number_as(kind: u8, word: &[u8]) -> usize {
-    if kind == b'-' {
-        return 0;
-    }
     if kind == b'b' && 3 < word.len() {
         return 65536;
     }
@@ -253,13 +237,30 @@ fn number_as(kind: u8, word: &[u8]) -> usize {
     if largest(kind) < n { 65536 } else { n }
 }
 
-// The words after the first, each as the letter of `kinds` says that stands for it. One that cannot be read makes the first
-// of the answer 1.
-pub fn read_numbers(line: &[u8], w: Words, kinds: &[u8]) -> [usize; 8] {
+// 0 for the word that it must be.
+fn if_is(word: &[u8], expected: &[u8]) -> usize {
+    if is(word, expected) { 0 } else { 65536 }
+}
+
+// What a word says, as its kind asks: `n` a number, `b` one of at most three digits, up to 255, `s` one below 64, `q` one
+// below 16; `K`, `L`, `P`, `R` the words `key`, `layer`, `p` and `r`; `-` any word, not looked at. Past 65,535 where it is not so.
+fn read_as(kind: u8, word: &[u8]) -> usize {
+    match kind {
+        b'-' => 0,
+        b'K' => if_is(word, b"key"),
+        b'L' => if_is(word, b"layer"),
+        b'P' => if_is(word, b"p"),
+        b'R' => if_is(word, b"r"),
+        _ => number_as(kind, word),
+    }
+}
+
+// The words after the first, each as its letter of `kinds` asks. The first of the answer is 0 where all could be read.
+pub fn read_numbers(line: &[u8], kinds: &[u8]) -> [usize; 8] {
     let mut of = [0usize; 8];
     let mut k = 0;
     while k < 7 && k < kinds.len() {
-        let n = number_as(kinds[k], word(line, w, k + 1));
+        let n = read_as(kinds[k], word(line, k + 1));
         of[k + 1] = n;
         if 65535 < n {
             of[0] = 1;

@@ -8,7 +8,6 @@ use Rattle.talk.proofs.input.Place.start as S
 use Rattle.talk.proofs.input.Place.filled as F
 use Rattle.talk.proofs.input.Place.answered as D
 use Rattle.talk.proofs.input.front as R
-use Rattle.talk.proofs.input.append as P
 use Rattle.talk.proofs.input.gather as G
 use Rattle.talk.proofs.text.Text.new as N
 use Rattle.talk.proofs.text.Text.put as T
@@ -45,8 +44,5 @@ pub front : DecidesAs R.ended (λ κs. List ℕ) (λ κs r. now r) (λ M. R.spec
 front M 𝓤 H A m r = record { same = refl; free = λ κs a g. refl; only = λ κs a g g′ x x′ ws ws′. both 𝓤 _ _ _ (λ p q. (p ∙ sym q, refl)) }
 
 -- the second parameter is lent: the answer, and what it then holds
-pub append : Decides P.ended (λ M. P.spec) (λ M. P.clauses)
-append M 𝓤 H A m r = record { same = refl; free = λ κs a g. refl; only = λ κs a g g′ x x′ ws ws′. both 𝓤 _ _ _ (λ p q. (p .0 ∙ sym (q .0), ap (λ w. (tt, (w, (tt, tt)))) (p .1 ∙ sym (q .1)))) }
-
 pub gather : Decides G.ended (λ M. G.spec) (λ M. G.clauses)
 gather M 𝓤 H A m r = record { same = refl; free = λ κs a g. refl; only = λ κs a g g′ x x′ ws ws′. both 𝓤 _ _ _ (λ p q. (p .0 ∙ sym (q .0), ap (λ w. (tt, (w, (tt, tt)))) (p .1 ∙ sym (q .1)))) }

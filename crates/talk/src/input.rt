@@ -84,7 +84,7 @@ fn line_length(bytes: &[u8]) -> usize
 
 // More bytes behind the n that are there, and how many there are now. Where they do not fit nothing is written, and the
 // answer is one more than fits.
-pub fn append(bytes: &[u8], into: &mut [u8], n: usize) -> usize
+fn append(bytes: &[u8], into: &mut [u8], n: usize) -> usize
     ensures { λ r. ⌜ (r ≡ countOf (length (now (into .entry))) n (length (now (bytes .entry)))) × (now (into .exit) ≡ appended (now (into .entry)) n (now (bytes .entry))) ⌝ }
 {
     if into.len() < n {

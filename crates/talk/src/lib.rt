@@ -4,7 +4,6 @@ mod input;
 mod text;
 
 pub use input::Place;
-pub use input::append;
 pub use input::front;
 pub use input::gather;
 pub use text::Text;

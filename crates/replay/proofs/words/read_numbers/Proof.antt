@@ -5,10 +5,10 @@ use Rattle.replay.proofs.words.read_numbers.Statement.{statement}
 use Rattle.replay.proofs.words.read_numbers.Tie as tie
 
 abbrev Inv-loop : tie.InvT-loop
-Inv-loop line w kinds of₀ k₀ of k = k ≤ 7
+Inv-loop line kinds of₀ k₀ of k = k ≤ 7
 
 abbrev μ-loop : tie.MeasureT-loop
-μ-loop line w kinds of₀ k₀ of k = 7 - k
+μ-loop line kinds of₀ k₀ of k = 7 - k
 
 pub read-numbers-spec : {M : Type 1} → statement M
 read-numbers-spec =
