@@ -24,16 +24,19 @@ fn unread(keyboard: Keyboard) -> Done {
     }
 }
 
+fn report_of(b: [u8; 32768]) -> KbHidReport {
+    KbHidReport {
+        bytes: [b[0], b[1], b[2], b[3], b[4], b[5], b[6], b[7]],
+    }
+}
+
 // `report HEX`: the report to send from now on, eight bytes.
 fn report(bytes: Bytes, keyboard: Keyboard) -> Done {
     if !bytes.read || bytes.len != 8 {
         return unread(keyboard);
     }
-    let b = bytes.bytes;
-    let report = KbHidReport {
-        bytes: [b[0], b[1], b[2], b[3], b[4], b[5], b[6], b[7]],
-    };
-    let done = through::set_keyboard_report(keyboard, report);
+    let all = bytes.bytes;
+    let done = through::set_keyboard_report(keyboard, report_of(all));
     let after = done.keyboard;
     Done {
         keyboard: after,

@@ -159,10 +159,14 @@ fn find(line: &[u8], forms: &[u8]) -> Asked {
     }
 }
 
-// The forms of all commands, in the order in which `of_place` and `of_rest` count them.
+// The forms of all commands, in the order in which `of_place` and `of_rest` count them. Two spaces: no further word.
 pub fn read(line: &[u8]) -> Asked {
     find(
         line,
-        b"codes - image - areas -- room n space n p bb r bb t  k  default n counts nn state sKbbb state sLnbb queue qPbbn queue qRbbn wait bbnn idle  debounce nnn- debouncer nnnn-- scan - update - picture  report - get bb set bb- rate b idling bn clock n descriptor ",
+        b"codes - image - areas -- room n space n \
+          p bb r bb t  k  \
+          default n counts nn state sKbbb state sLnbb queue qPbbn queue qRbbn wait bbnn idle  \
+          debounce nnn- debouncer nnnn-- scan - update - picture  \
+          report - get bb set bb- rate b idling bn clock n descriptor ",
     )
 }

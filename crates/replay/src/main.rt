@@ -69,14 +69,13 @@ fn start() -> Desk {
     }
 }
 
-fn said(desk: Desk, text: Text) -> Done {
-    Done { desk, text }
-}
-
 // `image HEX`: the image that later lines are given, with a fresh layout.
 fn on_image(bytes: Bytes, table: &mut [u8; table::ROOM], desk: Desk) -> Done {
     if !bytes.read {
-        return said(desk, say::unread());
+        return Done {
+            desk,
+            text: say::unread(),
+        };
     }
     let all = bytes.bytes;
     let image = front(&all, bytes.len);
@@ -84,15 +83,24 @@ fn on_image(bytes: Bytes, table: &mut [u8; table::ROOM], desk: Desk) -> Done {
     let mut after = desk;
     after.image = bytes.len;
     after.layout = Layout::new();
-    said(after, table::checked(image))
+    Done {
+        desk: after,
+        text: table::checked(image),
+    }
 }
 
 fn on_table(asked: Table, line: &[u8], table: &mut [u8; table::ROOM], desk: Desk) -> Done {
     let bytes = words::hex_at(line, 1);
     match asked {
-        Table::Codes => said(desk, table::codes(bytes)),
+        Table::Codes => Done {
+            desk,
+            text: table::codes(bytes),
+        },
         Table::Image => on_image(bytes, table, desk),
-        Table::Areas => said(desk, table::areas(bytes, words::hex_at(line, 2))),
+        Table::Areas => Done {
+            desk,
+            text: table::areas(bytes, words::hex_at(line, 2)),
+        },
     }
 }
 
@@ -103,7 +111,10 @@ fn on_buffer(asked: Buffer, n: usize, line: &[u8], desk: Desk) -> Done {
         Buffer::Room => after.room = n,
         Buffer::Space => after.space = n,
     }
-    said(after, say::text(line))
+    Done {
+        desk: after,
+        text: say::text(line),
+    }
 }
 
 fn on_call(call: Call, of: [usize; 8], table: &[u8; table::ROOM], desk: Desk) -> Done {
@@ -113,14 +124,17 @@ fn on_call(call: Call, of: [usize; 8], table: &[u8; table::ROOM], desk: Desk) ->
     let text = done.text;
     let mut after = desk;
     after.layout = changed;
-    said(after, text)
+    Done { desk: after, text }
 }
 
 fn on_part(part: Part, of: [usize; 8], line: &[u8], desk: Desk) -> Done {
     let layout = desk.layout;
     let mut after = desk;
     after.layout = parts::set(part, of, layout);
-    said(after, say::text(line))
+    Done {
+        desk: after,
+        text: say::text(line),
+    }
 }
 
 fn on_bounce(asked: Bounce, of: [usize; 8], line: &[u8], desk: Desk) -> Done {
@@ -130,7 +144,7 @@ fn on_bounce(asked: Bounce, of: [usize; 8], line: &[u8], desk: Desk) -> Done {
     let text = done.text;
     let mut after = desk;
     after.debouncer = changed;
-    said(after, text)
+    Done { desk: after, text }
 }
 
 fn on_board(asked: Board, of: [usize; 8], line: &[u8], desk: Desk) -> Done {
@@ -140,7 +154,7 @@ fn on_board(asked: Board, of: [usize; 8], line: &[u8], desk: Desk) -> Done {
     let text = done.text;
     let mut after = desk;
     after.keyboard = changed;
-    said(after, text)
+    Done { desk: after, text }
 }
 
 fn answer(line: &[u8], table: &mut [u8; table::ROOM], desk: Desk) -> Done {
@@ -154,14 +168,18 @@ fn answer(line: &[u8], table: &mut [u8; table::ROOM], desk: Desk) -> Done {
         Command::Part(part) => on_part(part, of, line, desk),
         Command::Bounce(asked) => on_bounce(asked, of, line, desk),
         Command::Board(asked) => on_board(asked, of, line, desk),
-        Command::Unread => said(desk, say::unread()),
+        Command::Unread => Done {
+            desk,
+            text: say::unread(),
+        },
     }
 }
 
-// Where writing fails there is nobody to tell.
+// Writes a line. Where that fails there is nobody to tell.
 fn write(text: Text) {
-    let bytes = text.bytes;
-    io::write_all(STDOUT_FILENO, front(&bytes, text.len));
+    let whole = text.put(b'\n');
+    let bytes = whole.bytes;
+    io::write_all(STDOUT_FILENO, front(&bytes, whole.len));
 }
 
 // One read of standard input. A read that fails is the end of it.
@@ -182,7 +200,7 @@ fn advance(input: &mut [u8; INPUT], line: &mut [u8; LINE], place: Place) -> Plac
 fn reply(line: &[u8; LINE], held: usize, table: &mut [u8; table::ROOM], desk: Desk) -> Desk {
     let done = answer(front(line, held), table, desk);
     let text = done.text;
-    write(text.put(b'\n'));
+    write(text);
     done.desk
 }
 

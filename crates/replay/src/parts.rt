@@ -100,11 +100,12 @@ fn waiting_of(of: [usize; 8]) -> Waiting {
 }
 
 pub fn set(part: Part, of: [usize; 8], layout: Layout) -> Layout {
+    let first = of[1];
     match part {
-        Part::Default => with_default(layout, of[1]),
-        Part::Counts => with_counts(layout, of[1], of[2]),
-        Part::Key => with_state(layout, of[1], key_of(of)),
-        Part::Layer => with_state(layout, of[1], layer_of(of)),
+        Part::Default => with_default(layout, first),
+        Part::Counts => with_counts(layout, first, of[2]),
+        Part::Key => with_state(layout, first, key_of(of)),
+        Part::Layer => with_state(layout, first, layer_of(of)),
         Part::Pressed => queued(true, of, layout),
         Part::Released => queued(false, of, layout),
         Part::Wait => with_waiting(layout, waiting_of(of)),

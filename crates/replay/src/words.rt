@@ -145,7 +145,7 @@ fn read_hex(word: &[u8]) -> Bytes {
         i += 1;
     }
     Bytes {
-        read: word.len() % 2 == 0,
+        read: 0 < i && word.len() % 2 == 0,
         len: i,
         bytes,
     }
@@ -164,20 +164,17 @@ fn read_picture(word: &[u8]) -> Bytes {
         i += 1;
     }
     Bytes {
-        read: true,
+        read: 0 < i,
         len: i,
         bytes,
     }
 }
 
-// What word k says in hex, or as a picture. `-` is no byte, and an empty word says nothing.
+// What word k says in hex, or as a picture; `-` is no byte.
 pub fn hex_at(line: &[u8], k: usize) -> Bytes {
     let word = word(line, k);
     if is_none(word) {
         return no_bytes(true);
-    }
-    if word.len() == 0 {
-        return no_bytes(false);
     }
     read_hex(word)
 }
@@ -186,9 +183,6 @@ pub fn picture_at(line: &[u8], k: usize) -> Bytes {
     let word = word(line, k);
     if is_none(word) {
         return no_bytes(true);
-    }
-    if word.len() == 0 {
-        return no_bytes(false);
     }
     read_picture(word)
 }

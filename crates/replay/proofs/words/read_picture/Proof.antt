@@ -25,5 +25,4 @@ read-picture-spec =
     (λ c. search needs)
     (λ c. search needs)
     (λ c. search needs)
-    (λ c. search needs)
     (λ c. search needs))
