@@ -29,6 +29,7 @@ use Rattle.image.specs.Tree.{Action, Actions, NoOp, Trans, KeyCode, Mult
 use Rattle.image.specs.Legal.{closed, closedAll, Times, holdable, legal, legalAll}
 use Rattle.image.specs.Table.{tableOf, treeIn, longestBelow, timesOf}
 use Rattle.lists.specs.Lists.{every}
+use Rattle.lists.proofs.Laws.{both-true, every-head}
 use Rattle.image.specs.Check.{headFault, cellFault, recordFault, firstFault, bodyFault, faultOf, answer, checkOf}
 use Rattle.image.specs.Sound.{Ready, Sound, Meant}
 use Rattle.image.specs.Use.{areaOf, sourceOf}
@@ -42,9 +43,13 @@ use Rattle.image.specs.declared.rules.Fault.{Fault}
 use Rattle.image.specs.declared.rules.Fault.the-variants.{Fine, At}
 use Rattle.image.specs.declared.rules.Checked.the-variants.{Accepted}
 use Rattle.image.specs.declared.areas.Source.the-variants.{Operator, BuiltIn}
-use Rattle.image.proofs.Laws.{and-left, and-right, rule-fine, or-fine, fine-all, framed, cell-kept, good, meant, all-at, two-of, below-byte, either, by-kind}
+use Rattle.image.proofs.Faults.{rule-fine, or-fine, fine-all}
+use Rattle.image.proofs.Header.{framed, cell-kept}
+use Rattle.image.proofs.Entries.{all-at, two-of, below-byte}
+use Rattle.image.proofs.Trees.{meant, either, by-kind}
+use Rattle.image.proofs.Records.{good}
 use Rattle.image.proofs.Chosen.{area-accepted, operator-chosen, built-in-chosen}
-pub use Rattle.image.proofs.Laws.{entries-step, length-entries, all-head, all-tail, named-step, named-none}
+pub use Rattle.image.proofs.Entries.{entries-step, length-entries, all-head, all-tail, named-step, named-none}
 
 sound : (img : List ℕ) → faultOf img ≡ Fine → Sound img
 unfolding faultOf bodyFault
@@ -91,7 +96,7 @@ past img n h = rw (le-ltb n (recordsOf img) h)
 pub ready : (img : List ℕ) (n : ℕ) → Sound img → n < recordsOf img → Ready img n
 ready img n s h =
     let g = s .records n h in
-    record { inside = h; form = g .form; listed = g .listed; codes = g .codes; lower = g .lower; before = λ k l. s .records k (omega arith) }
+    record { formed = record { inside = h; form = g .form; before = λ k l. s .records k (omega arith) }; listed = g .listed; codes = g .codes; lower = g .lower }
 
 past-meant : (img : List ℕ) (n : ℕ) → actionAt img n ≡ code.NoOp → Meant img n code.NoOp
 unfolding tree meaning listEnd codesIn childrenIn every
@@ -105,10 +110,6 @@ tells img n {r} {x} s e f = go (decLt n (recordsOf img))
     go (no g) =
         let p = past img n (omega arith) in
         subst (λ x. Meant img n x) (sym p ∙ sym e ∙ f) (past-meant img n p)
-
--- the tree of every record, one step on
-pub tree-unfolds : (img : List ℕ) (n : ℕ) → Sound img → tree img n ≡ meaning img (tree img) n (actionAt img n)
-tree-unfolds img n s = tells img n s refl refl .is
 
 -- the records that a record names are lower
 module _ (img : List ℕ) (n a b : ℕ) where
@@ -127,8 +128,8 @@ module _ (img : List ℕ) (n a b : ℕ) where
   entry-legal i m h = all-at legalCode img a b i h (m .codes)
 
 pub key-legal : (img : List ℕ) (n k : ℕ) → Meant img n (code.KeyCode k) → legalCode k ≡ true
-unfolding codesIn every
-key-legal img n k m = and-left (legalCode k) true (m .codes)
+unfolding codesIn
+key-legal img n k m = every-head legalCode k [] (m .codes) .0
 
 -- a legal code fits a byte
 pub code-byte : (k : ℕ) → legalCode k ≡ true → k < 256
@@ -147,10 +148,11 @@ pub cell-place : (img : List ℕ) (l r c n : ℕ) → cellAt img l r c ≡ cell.
 unfolding cellAt
 cell-place img l r c n e =
     let h = is-record (isInside img l r c) (cellOf img (cellPlace img l r c)) n e in
-    let hl = ltb-true l (layersOf img) (and-left (ltb l (layersOf img)) (ltb r (rowsOf img) && ltb c (columnsOf img)) (h .0)) in
-    let hi = and-right (ltb l (layersOf img)) (ltb r (rowsOf img) && ltb c (columnsOf img)) (h .0) in
-    let hr = ltb-true r (rowsOf img) (and-left (ltb r (rowsOf img)) (ltb c (columnsOf img)) hi) in
-    let hc = ltb-true c (columnsOf img) (and-right (ltb r (rowsOf img)) (ltb c (columnsOf img)) hi) in
+    let in-layers = both-true (ltb l (layersOf img)) _ (h .0) in
+    let in-rows = both-true (ltb r (rowsOf img)) _ (in-layers .1) in
+    let hl = ltb-true l (layersOf img) (in-layers .0) in
+    let hr = ltb-true r (rowsOf img) (in-rows .0) in
+    let hc = ltb-true c (columnsOf img) (in-rows .1) in
     (mixed (l * rowsOf img + r) (layersOf img * rowsOf img) c (columnsOf img) (mixed l (layersOf img) r (rowsOf img) hl hr) hc, h .1)
 
 pub cell-named : (img : List ℕ) (l r c n : ℕ) → Sound img → cellAt img l r c ≡ cell.Record n → n < recordsOf img
@@ -211,7 +213,7 @@ mutual
   open-closed (DefaultLayer k) = refl
   open-closed (HoldTap n t h p) = refl
 
-  pub open-closed-all : (as′ : Actions) → closedAll as′ ≡ not (someOpen as′)
+  open-closed-all : (as′ : Actions) → closedAll as′ ≡ not (someOpen as′)
   open-closed-all end = refl
   open-closed-all (a & as′) = rw (open-closed a, open-closed-all as′) (sym (not-or (open? a) (someOpen as′)))
 
@@ -239,14 +241,14 @@ unfolding named every shutButLast longest legal
 legal-named t n m f [] l s w = refl
 legal-named t n m f (k ∷ []) l s w =
     and-both ((closed (t k) || true) && legal (t k) m) true
-    (and-both (closed (t k) || true) (legal (t k) m) (or-right (closed (t k))) (f k (ltb-true k n (and-left (ltb k n) true l)) (omega arith)))
+    (and-both (closed (t k) || true) (legal (t k) m) (or-right (closed (t k))) (f k (ltb-true k n (every-head (λ k. ltb k n) k [] l .0)) (omega arith)))
     refl
 legal-named t n m f (k ∷ (j ∷ ks)) l s w =
-    let shut = and-left (not (open? (t k))) (shutButLast (t j & named t ks)) s in
-    let rest = and-right (not (open? (t k))) (shutButLast (t j & named t ks)) s in
+    let low = every-head (λ k. ltb k n) k (j ∷ ks) l in
+    let shut = both-true (not (open? (t k))) _ s in
     and-both ((closed (t k) || false) && legal (t k) m) (legalAll (t j & named t ks) m)
-    (and-both (closed (t k) || false) (legal (t k) m) (or-left (closed (t k)) false (open-closed (t k) ∙ shut)) (f k (ltb-true k n (and-left (ltb k n) (every (λ k. ltb k n) (j ∷ ks)) l)) (omega arith)))
-    (legal-named t n m f (j ∷ ks) (and-right (ltb k n) (every (λ k. ltb k n) (j ∷ ks)) l) rest (omega arith))
+    (and-both (closed (t k) || false) (legal (t k) m) (or-left (closed (t k)) false (open-closed (t k) ∙ shut .0)) (f k (ltb-true k n (low .0)) (omega arith)))
+    (legal-named t n m f (j ∷ ks) (low .1) (shut .1) (omega arith))
 
 legal-means : (img : List ℕ) (n : ℕ) (m : Times) (x : Record) → ((k : ℕ) → k < n → longest (tree img k) ≤ m .first → legal (tree img k) m ≡ true) → every (λ k. ltb k n) (childrenIn img x) ≡ true → settled (meaning img (tree img) n x) ≡ true → longest (meaning img (tree img) n x) ≤ m .first → legal (meaning img (tree img) n x) m ≡ true
 unfolding meaning childrenIn settled longest legal holdable
@@ -258,11 +260,12 @@ legal-means img n m (code.MultipleActions a b) f l s w = legal-named (tree img) 
 legal-means img n m (code.Layer k) f l s w = refl
 legal-means img n m (code.DefaultLayer k) f l s w = refl
 legal-means img n m (code.HoldTap t h p) f l s w =
+    let shut = both-true (not (open? (tree img h))) (not (open? (tree img p))) s in
     and-both (leb t (m .first)) (closed (tree img h) && closed (tree img p)) (le-leb t (m .first) (omega arith))
-    (and-both (closed (tree img h)) (closed (tree img p)) (open-closed (tree img h) ∙ and-left (not (open? (tree img h))) (not (open? (tree img p))) s) (open-closed (tree img p) ∙ and-right (not (open? (tree img h))) (not (open? (tree img p))) s))
+    (and-both (closed (tree img h)) (closed (tree img p)) (open-closed (tree img h) ∙ shut .0) (open-closed (tree img p) ∙ shut .1))
 
 -- every tree is legal with times that its own do not pass
-pub legal-tree : (img : List ℕ) (m : Times) → Sound img → (n : ℕ) → longest (tree img n) ≤ m .first → legal (tree img n) m ≡ true
+legal-tree : (img : List ℕ) (m : Times) → Sound img → (n : ℕ) → longest (tree img n) ≤ m .first → legal (tree img n) m ≡ true
 legal-tree img m s =
     by-lower (λ n. longest (tree img n) ≤ m .first → legal (tree img n) m ≡ true) (λ n f w.
     let e = tells img n s refl refl in
@@ -295,7 +298,9 @@ word-bound img at b = omega (arith, b at, b (at + 1))
 longest-named : (t : ℕ → Action) (n : ℕ) → ((k : ℕ) → k < n → longest (t k) ≤ 65535) → (ks : List ℕ) → every (λ k. ltb k n) ks ≡ true → longestOf (named t ks) ≤ 65535
 unfolding named every longest
 longest-named t n f [] l = omega arith
-longest-named t n f (k ∷ ks) l = omega (arith, f k (ltb-true k n (and-left (ltb k n) (every (λ k. ltb k n) ks) l)), longest-named t n f ks (and-right (ltb k n) (every (λ k. ltb k n) ks) l))
+longest-named t n f (k ∷ ks) l =
+    let low = every-head (λ k. ltb k n) k ks l in
+    omega (arith, f k (ltb-true k n (low .0)), longest-named t n f ks (low .1))
 
 -- each hold time is a record's word a
 longest-record : (img : List ℕ) (n : ℕ) → ((i : ℕ) → getD img i 0 < 256) → ((k : ℕ) → k < n → longest (tree img k) ≤ 65535) → every (λ k. ltb k n) (childrenIn img (actionAt img n)) ≡ true → longest (meaning img (tree img) n (actionAt img n)) ≤ 65535

@@ -18,7 +18,8 @@ use Rattle.image.specs.declared.rules.Fault.the-variants.{Fine, At}
 use Rattle.image.specs.declared.rules.Checked.{Checked}
 use Rattle.image.specs.declared.rules.Checked.the-variants.{Accepted, Refused}
 use Rattle.image.specs.declared.areas.Source.the-variants.{Operator, BuiltIn, Neither}
-use Rattle.image.proofs.Laws.{rule-fine, headed}
+use Rattle.image.proofs.Faults.{rule-fine}
+use Rattle.image.proofs.Header.{headed}
 
 -- a fault of the area decides; with none the stretch is checked
 pub area-at : (f : Fault) (c : Checked) (r : Refusal) (p : ℕ) → f ≡ At r p → Refused r p ≡ unlessFault f c

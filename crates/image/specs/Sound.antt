@@ -40,14 +40,18 @@ pub record Good (img : List ℕ) (n : ℕ) : Type 0 where
   pub settles : settled (tree img n) ≡ true
   pub light : weight (tree img n) ≤ 64
 
--- what is known of record n when the check comes to its open rule
-pub record Ready (img : List ℕ) (n : ℕ) : Type 0 where
+-- what is known of record n when the check has passed its form
+pub record Formed (img : List ℕ) (n : ℕ) : Type 0 where
   pub inside : n < recordsOf img
   pub form : formGood img n ≡ true
+  pub before : (k : ℕ) → k < n → Good img k
+
+-- what is known of it when the check comes to its open rule
+pub record Ready (img : List ℕ) (n : ℕ) : Type 0 where
+  pub formed : Formed img n
   pub listed : listEnd (actionAt img n) ≤ entriesOf img
   pub codes : every legal (codesIn img (actionAt img n)) ≡ true
   pub lower : every (λ k. ltb k n) (childrenIn img (actionAt img n)) ≡ true
-  pub before : (k : ℕ) → k < n → Good img k
 
 -- so many words in a row from a byte offset on, inside the image, number records below n
 pub record Rowed (img : List ℕ) (n at count : ℕ) : Type 0 where

@@ -1,8 +1,6 @@
-// The check of a table image, a rule a function: document 01, "Refusal numbers" 1 to 9. The header's words are read once
-// and handed on as numbers, and a record's words are read once for its five rules.
+// The check of a table image: document 01, "Refusal numbers" 1 to 9. The header's words are read once and handed on as
+// numbers. A record's words are read once for its rules, and its kind says which of them it can break.
 // Assumes nothing.
-use super::record::Action;
-use super::record::action_of;
 use super::words::Shape;
 use super::words::entry;
 use super::words::field;
@@ -14,14 +12,17 @@ ghost use mathlib.Core.Path.{_≡_};
 ghost use Prim.Native.Nat.{ℕ, _+_, _*_, _<_, _≤_};
 ghost use mathlib.Core.Bool.{true, _&&_};
 ghost use lib.ListN.{length};
-ghost use lib.Dec.{ltb};
+ghost use lib.Dec.{leb, ltb};
 ghost use Rattle.codes.specs.Codes.{legal};
-ghost use Rattle.image.specs.Words.{shapeOf, cellsOf, recordsOf, entriesOf, recordsAt, entries, wordsFrom};
-ghost use Rattle.image.specs.Record.{actionAt, codesIn, childrenIn, listEnd, stepOf};
-ghost use Rattle.image.specs.Tree.{tree, weight, weights, open?, settled, named, shutButLast};
+ghost use Rattle.image.specs.Words.{shapeOf, cellsOf, recordsOf, entriesOf, recordsAt, fieldOf, entries, wordsFrom};
+ghost use Rattle.image.specs.Record.{actionAt, stepOf};
+ghost use Rattle.image.specs.Tree.{tree, open?, shutButLast, settled, weight, weights, named};
 ghost use Rattle.lists.specs.Lists.{every};
-ghost use Rattle.image.specs.Check.{within, countsGood, offsetsGood, headerGood, headFault, cellFault, form, recordFault, firstFault, bodyFault, faultOf, checkOf, toldOf};
-ghost use Rattle.image.specs.Sound.{Framed, Placed, Good, Ready, Rowed};
+ghost use Rattle.image.specs.Check.{rule, within, countsGood, offsetsGood, headerGood, headFault, cellFault, form, recordFault, firstFault, bodyFault, faultOf, checkOf, toldOf};
+ghost use Rattle.image.specs.Sound.{Framed, Placed, Good, Formed, Ready, Rowed};
+ghost use Rattle.refusal.specs.declared.Refusal.the-variants.{Code, Weight};
+ghost use Rattle.image.specs.declared.record.Action.the-variants.{MultipleKeyCodes, MultipleActions, HoldTap};
+ghost use Rattle.image.specs.declared.rules.Fault.the-variants.{Fine};
 
 // The header's numbers of an accepted image, or the first fault and its place.
 pub enum Checked {
@@ -205,51 +206,6 @@ fn entries_lower(image: &[u8], list_at: usize, n: usize, first: usize, count: us
     true
 }
 
-// Every code in a record is legal.
-fn codes_good(image: &[u8], list_at: usize, act: Action) -> bool
-    requires { ⌜ (listEnd act ≤ entriesOf (now image)) × Placed (now image) (recordsAt (now image)) «list_at» ⌝ }
-    ensures { λ r. ⌜ r ≡ every legal (codesIn (now (image .entry)) act) ⌝ }
-{
-    match act {
-        Action::KeyCode(code) => KeyCode::is_legal(code),
-        Action::MultipleKeyCodes(first, count) => codes_legal(
-            image,
-            list_at,
-            first as usize,
-            count as usize,
-        ),
-        Action::NoOp => true,
-        Action::Trans => true,
-        Action::MultipleActions(_, _) => true,
-        Action::Layer(_) => true,
-        Action::DefaultLayer(_) => true,
-        Action::HoldTap(_, _, _) => true,
-    }
-}
-
-// Every record that record n names is lower.
-fn children_lower(image: &[u8], list_at: usize, n: usize, act: Action) -> bool
-    requires { ⌜ (listEnd act ≤ entriesOf (now image)) × Placed (now image) (recordsAt (now image)) «list_at» ⌝ }
-    ensures { λ r. ⌜ r ≡ every (λ k. ltb k n) (childrenIn (now (image .entry)) act) ⌝ }
-{
-    match act {
-        Action::MultipleActions(first, count) => entries_lower(
-            image,
-            list_at,
-            n,
-            first as usize,
-            count as usize,
-        ),
-        Action::HoldTap(_, hold, tap) => (hold as usize) < n && (tap as usize) < n,
-        Action::NoOp => true,
-        Action::Trans => true,
-        Action::KeyCode(_) => true,
-        Action::MultipleKeyCodes(_, _) => true,
-        Action::Layer(_) => true,
-        Action::DefaultLayer(_) => true,
-    }
-}
-
 // Where the search for a HoldTap goes from record n, each word that it takes read once.
 fn step_from(image: &[u8], records_at: usize, list_at: usize, n: usize) -> Step
     requires { ⌜ Placed (now image) «records_at» «list_at» × Ready (now image) n ⌝ }
@@ -295,7 +251,7 @@ fn shut_but_last(
     first: usize,
     count: usize,
 ) -> bool
-    requires { ⌜ Placed (now image) «records_at» «list_at» × Ready (now image) n × (first + count ≤ entriesOf (now image)) × (every (λ k. ltb k n) (entries (now image) first count) ≡ true) ⌝ }
+    requires { ⌜ Placed (now image) «records_at» «list_at» × Formed (now image) n × (first + count ≤ entriesOf (now image)) × (every (λ k. ltb k n) (entries (now image) first count) ≡ true) ⌝ }
     ensures { λ r. ⌜ r ≡ shutButLast (named (tree (now (image .entry))) (entries (now (image .entry)) first count)) ⌝ }
 {
     let mut at = first;
@@ -309,34 +265,6 @@ fn shut_but_last(
         left -= 1;
     }
     true
-}
-
-// Record n keeps the open rule.
-fn is_settled(image: &[u8], records_at: usize, list_at: usize, n: usize, act: Action) -> bool
-    requires { ⌜ Placed (now image) «records_at» «list_at» × (act ≡ actionAt (now image) n) × Ready (now image) n ⌝ }
-    ensures { λ r. ⌜ r ≡ settled (tree (now (image .entry)) n) ⌝ }
-{
-    match act {
-        Action::MultipleActions(first, count) => shut_but_last(
-            image,
-            records_at,
-            list_at,
-            n,
-            first as usize,
-            count as usize,
-        ),
-        Action::HoldTap(_, hold, tap) => {
-            let held = is_open(image, records_at, list_at, hold as usize);
-            let tapped = is_open(image, records_at, list_at, tap as usize);
-            both(!held, !tapped)
-        }
-        Action::NoOp => true,
-        Action::Trans => true,
-        Action::KeyCode(_) => true,
-        Action::MultipleKeyCodes(_, _) => true,
-        Action::Layer(_) => true,
-        Action::DefaultLayer(_) => true,
-    }
 }
 
 // The row of record n, each word that it takes read once: a MultipleActions has its entries, and a HoldTap its own last
@@ -408,7 +336,7 @@ fn weigh_row(
     at: usize,
     count: usize,
 ) -> usize
-    requires { ⌜ Placed (now image) «records_at» «list_at» × Ready (now image) n × Rowed (now image) n at count ⌝ }
+    requires { ⌜ Placed (now image) «records_at» «list_at» × Formed (now image) n × Rowed (now image) n at count ⌝ }
     ensures { λ r. ⌜ (r ≡ weights (named (tree (now (image .entry))) (wordsFrom (now (image .entry)) at count))) × (r ≤ 64 * count) ⌝ }
 {
     let mut sum = 0;
@@ -440,31 +368,86 @@ fn weigh(image: &[u8], records_at: usize, list_at: usize, n: usize) -> usize
     row.own + weigh_row(image, records_at, list_at, n, row.at, row.count)
 }
 
-// The weight of record n, whose words are read already.
-fn weight_of(image: &[u8], records_at: usize, list_at: usize, n: usize, act: Action) -> usize
-    requires { ⌜ Placed (now image) «records_at» «list_at» × (act ≡ actionAt (now image) n) × Ready (now image) n ⌝ }
-    ensures { λ r. ⌜ r ≡ weight (tree (now (image .entry)) n) ⌝ }
+// Weight, the last rule of a record.
+fn weight_fault(n: usize, weight: usize) -> Fault
+    ensures { λ r. ⌜ r ≡ rule (leb weight 64) Weight n Fine ⌝ }
 {
-    match act {
-        Action::MultipleKeyCodes(_, count) => 1 + (count as usize),
-        Action::MultipleActions(first, count) => {
-            let at = list_at + 2 * (first as usize);
-            1 + weigh_row(image, records_at, list_at, n, at, count as usize)
-        }
-        Action::HoldTap(_, hold, tap) => {
-            1
-                + (weigh(image, records_at, list_at, hold as usize)
-                    + weigh(image, records_at, list_at, tap as usize))
-        }
-        Action::NoOp => 1,
-        Action::Trans => 1,
-        Action::KeyCode(_) => 1,
-        Action::Layer(_) => 1,
-        Action::DefaultLayer(_) => 1,
+    if 64 < weight {
+        return Fault::At(Refusal::Weight, n);
     }
+    Fault::Fine
 }
 
-// The first fault of record n, where every lower record is good.
+// A KeyCode: Code.
+fn code_fault(n: usize, code: u16) -> Fault
+    ensures { λ r. ⌜ r ≡ rule (legal code) Code n Fine ⌝ }
+{
+    if !KeyCode::is_legal(code) {
+        return Fault::At(Refusal::Code, n);
+    }
+    Fault::Fine
+}
+
+// A MultipleKeyCodes: Code, Weight.
+fn codes_fault(image: &[u8], list_at: usize, n: usize, first: usize, count: usize) -> Fault
+    requires { ⌜ Placed (now image) (recordsAt (now image)) «list_at» × Formed (now image) n × (actionAt (now image) n ≡ MultipleKeyCodes first count) ⌝ }
+    ensures { λ r. ⌜ r ≡ recordFault (now (image .entry)) n ⌝ }
+{
+    if !codes_legal(image, list_at, first, count) {
+        return Fault::At(Refusal::Code, n);
+    }
+    weight_fault(n, 1 + count)
+}
+
+// A MultipleActions: Child, Nested, Weight.
+fn actions_fault(
+    image: &[u8],
+    records_at: usize,
+    list_at: usize,
+    n: usize,
+    first: usize,
+    count: usize,
+) -> Fault
+    requires { ⌜ Placed (now image) «records_at» «list_at» × Formed (now image) n × (actionAt (now image) n ≡ MultipleActions first count) ⌝ }
+    ensures { λ r. ⌜ r ≡ recordFault (now (image .entry)) n ⌝ }
+{
+    if !entries_lower(image, list_at, n, first, count) {
+        return Fault::At(Refusal::Child, n);
+    }
+    if !shut_but_last(image, records_at, list_at, n, first, count) {
+        return Fault::At(Refusal::Nested, n);
+    }
+    weight_fault(
+        n,
+        1 + weigh_row(image, records_at, list_at, n, list_at + 2 * first, count),
+    )
+}
+
+// A HoldTap: Child, Nested, Weight.
+fn hold_tap_fault(
+    image: &[u8],
+    records_at: usize,
+    list_at: usize,
+    n: usize,
+    hold: usize,
+    tap: usize,
+) -> Fault
+    requires { ⌜ Placed (now image) «records_at» «list_at» × Formed (now image) n × (actionAt (now image) n ≡ HoldTap (fieldOf (now image) n 2) hold tap) ⌝ }
+    ensures { λ r. ⌜ r ≡ recordFault (now (image .entry)) n ⌝ }
+{
+    if !both(hold < n, tap < n) {
+        return Fault::At(Refusal::Child, n);
+    }
+    let held = is_open(image, records_at, list_at, hold);
+    let tapped = is_open(image, records_at, list_at, tap);
+    if !both(!held, !tapped) {
+        return Fault::At(Refusal::Nested, n);
+    }
+    let weight = weigh(image, records_at, list_at, hold) + weigh(image, records_at, list_at, tap);
+    weight_fault(n, 1 + weight)
+}
+
+// The first fault of record n, where every lower record is good: its form, then the rules that its kind can break.
 fn record_fault(image: &[u8], records_at: usize, list_at: usize, listed: usize, n: usize) -> Fault
     requires { ⌜ Placed (now image) «records_at» «list_at» × (listed ≡ entriesOf (now image)) × (n < recordsOf (now image)) × ((k : ℕ) → k < n → Good (now image) k) ⌝ }
     ensures { λ r. ⌜ r ≡ recordFault (now (image .entry)) n ⌝ }
@@ -476,20 +459,13 @@ fn record_fault(image: &[u8], records_at: usize, list_at: usize, listed: usize, 
     if !form_good(listed, kind, a, b, c) {
         return Fault::At(Refusal::Record, n);
     }
-    let act = action_of(kind, a, b, c);
-    if !codes_good(image, list_at, act) {
-        return Fault::At(Refusal::Code, n);
+    match kind {
+        2 => code_fault(n, a),
+        3 => codes_fault(image, list_at, n, a as usize, b as usize),
+        4 => actions_fault(image, records_at, list_at, n, a as usize, b as usize),
+        7 => hold_tap_fault(image, records_at, list_at, n, b as usize, c as usize),
+        _ => Fault::Fine,
     }
-    if !children_lower(image, list_at, n, act) {
-        return Fault::At(Refusal::Child, n);
-    }
-    if !is_settled(image, records_at, list_at, n, act) {
-        return Fault::At(Refusal::Nested, n);
-    }
-    if 64 < weight_of(image, records_at, list_at, n, act) {
-        return Fault::At(Refusal::Weight, n);
-    }
-    Fault::Fine
 }
 
 // The first fault of the records.

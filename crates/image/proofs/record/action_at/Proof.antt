@@ -15,11 +15,14 @@ returns c =
     let a = c .before .before .before .args in
     rw (le-ltb (a .n) (recordsOf (now (a .image))) (omega arith))
 
+-- the offset of the record, and its words from the first
 returns-2 : tie.Need-returns-2
 unfolding actionAt fieldOf
 returns-2 c =
-    let a = c .before .before .before .before .before .before .before .before .before .args in
-    rw (lt-ltb (a .n) (recordsOf (now (a .image))) (omega arith), c .action-of .ensures, c .before .word-or-zero6 .ensures, c .before .before .word-or-zero5 .ensures, c .before .before .before .word-or-zero4 .ensures, c .before .before .before .before .word-or-zero3 .ensures, c .before .before .before .before .before .word-or-zero2 .ensures, add-zero)
+    let third = c .before .before in
+    let offset = third .before .before .before in
+    let a = offset .before .before .before .before .args in
+    rw (lt-ltb (a .n) (recordsOf (now (a .image))) (omega arith), c .action-of .ensures, c .before .word-or-zero6 .ensures, third .word-or-zero5 .ensures, third .before .word-or-zero4 .ensures, third .before .before .word-or-zero3 .ensures, offset .word-or-zero2 .ensures, add-zero)
 
 pub action-at-spec : {M : Type 1} → statement M
 action-at-spec = tie.close (tie.spec (λ c κs. search needs) (λ c. search needs) returns (λ c κs. search needs) (λ c. search needs) (λ c. search needs) (λ c. search needs) (λ c κs. search needs) (λ c. search needs) (λ c κs. search needs) (λ c. search needs) (λ c κs. search needs) (λ c. search needs) (λ c κs. search needs) (λ c κs. search needs) returns-2)

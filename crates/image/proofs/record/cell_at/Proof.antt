@@ -1,6 +1,6 @@
 -- `image::record::cell_at` meets its contract: a cell's place fits a machine word, since rows and columns are words. Assumes nothing.
-use Prim.Native.Nat.{_*_, _+_, _^_, _≤_}
-use Rattle.image.proofs.Laws.{room}
+use Prim.Native.Nat.{ℕ, _*_, _+_, _^_, _≤_}
+use Rattle.image.proofs.Header.{room}
 use Rattle.image.specs.Record.{cellAt}
 use Rattle.image.specs.Words.{cellOf, columnsOf, layersOf, rowsOf}
 use borrow.Author.Needs.{needs}
@@ -10,7 +10,21 @@ use native.Mathlib.Omega.{arith}
 use Rattle.image.proofs.record.cell_at.Statement.{statement}
 use Rattle.image.proofs.record.cell_at.Tie as tie
 
-places : (c : tie.Then3) → (c .before .before .before .before .before .before .before .args .layer * c .before .before .before .before .before .«word-or-zero» .result ≤ 2 ^ 32) × ((c .before .before .before .before .before .before .before .args .layer * c .before .before .before .before .before .«word-or-zero» .result + c .before .before .before .before .before .before .before .args .row) * c .before .before .before .before .word-or-zero2 .result ≤ 2 ^ 33 * 65536)
+-- where the header's three words were read, and two of them
+abbrev start : tie.After-word-or-zero3 → tie.Start
+start c = c .before .before .before .before
+
+abbrev rows : tie.After-word-or-zero3 → ℕ
+rows c = c .before .before .word-or-zero .result
+
+abbrev columns : tie.After-word-or-zero3 → ℕ
+columns c = c .before .word-or-zero2 .result
+
+-- inside the table
+abbrev header : tie.Then3 → tie.After-word-or-zero3
+header c = c .before .before .before
+
+places : (c : tie.Then3) → (start (header c) .args .layer * rows (header c) ≤ 2 ^ 32) × ((start (header c) .args .layer * rows (header c) + start (header c) .args .row) * columns (header c) ≤ 2 ^ 33 * 65536)
 places c = room _ _ _ _ (omega arith) (omega arith) (omega arith) (omega arith)
 
 mul-place : tie.Need-mul-place
@@ -37,28 +51,29 @@ word-or-zero-requires-4 c κs = omega (arith, places c)
 returns : tie.Need-returns
 unfolding cellAt cellOf
 returns c =
-    let a = c .before .before .before .before .before .before .before .before .args in
+    let h = header (c .before) in
+    let a = start h .args in
     let img = now (a .image) in
-    simp (c .word-or-zero4 .ensures, c .before .before .before .before .before .before .word-or-zero .ensures, c .before .before .before .before .before .word-or-zero2 .ensures, lt-ltb (a .layer) (layersOf img) (omega arith), lt-ltb (a .row) (rowsOf img) (omega arith), lt-ltb (a .column) (columnsOf img) (omega arith))
+    simp (c .word-or-zero4 .ensures, h .before .before .word-or-zero .ensures, h .before .word-or-zero2 .ensures, lt-ltb (a .layer) (layersOf img) (omega arith), lt-ltb (a .row) (rowsOf img) (omega arith), lt-ltb (a .column) (columnsOf img) (omega arith))
 
 returns-2 : tie.Need-returns-2
 unfolding cellAt
 returns-2 c =
-    let a = c .before .before .before .before .before .before .before .args in
+    let a = start (c .before .before .before) .args in
     let img = now (a .image) in
     simp (lt-ltb (a .layer) (layersOf img) (omega arith), lt-ltb (a .row) (rowsOf img) (omega arith), le-ltb (a .column) (columnsOf img) (omega arith))
 
 returns-3 : tie.Need-returns-3
 unfolding cellAt
 returns-3 c =
-    let a = c .before .before .before .before .before .before .args in
+    let a = start (c .before .before) .args in
     let img = now (a .image) in
     simp (lt-ltb (a .layer) (layersOf img) (omega arith), le-ltb (a .row) (rowsOf img) (omega arith))
 
 returns-4 : tie.Need-returns-4
 unfolding cellAt
 returns-4 c =
-    let a = c .before .before .before .before .before .args in
+    let a = start (c .before) .args in
     simp (le-ltb (a .layer) (layersOf (now (a .image))) (omega arith))
 
 pub cell-at-spec : {M : Type 1} → statement M

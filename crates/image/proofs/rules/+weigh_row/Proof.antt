@@ -1,6 +1,7 @@
 -- `image::rules::weigh_row` meets its contract: the number falls, and each lower record weighs at most 64. Assumes nothing.
 use Prim.Native.Nat.{_*_, _+_, _<_, _≤_, ℕ}
-use Rattle.image.proofs.Laws.{ready-lower, row-head, row-none, row-on, row-tail}
+use Rattle.image.proofs.Entries.{row-head, row-none, row-on, row-tail}
+use Rattle.image.proofs.Trees.{ready-lower}
 use Rattle.image.specs.Tree.{named, tree, weight, weights}
 use Rattle.image.specs.Words.{wordsFrom}
 use Rattle.lists.specs.Lists.{every}
@@ -59,7 +60,7 @@ weigh-row-weigh-row-requires : (t : ℕ) → weigh-row-lts.Need-weigh-row-requir
 weigh-row-weigh-row-requires t c κs =
     let before = c .before .before .before .before .before .before .before in
     let h = low t (c .before .before .before) in
-    (omega (arith, h, before .pre .0), (before .pre .1 .0, ready-lower _ _ _ (before .pre .1 .1) h, c .before .before .row-past .ensures .0))
+    (omega (arith, h, before .pre .0), (before .pre .1 .0, ready-lower _ _ _ (before .pre .1 .1) h .formed, c .before .before .row-past .ensures .0))
 
 weigh-row-add-w : (t : ℕ) → weigh-row-lts.Need-add-w (claims t) (weigh-row-at t) weigh-row.Post weigh-row-Inv-loop weigh-row-μ-loop
 weigh-row-add-w t c =

@@ -1,6 +1,7 @@
 -- `image::rules::cells_fault` meets its contract. The invariant: the first fault is that from the cell reached on. Assumes nothing.
 use Prim.Native.Nat.{_-_, _≤_}
-use Rattle.image.proofs.Laws.{cell-bad, cell-fine, fault-here, fault-none, fault-on}
+use Rattle.image.proofs.Faults.{fault-here, fault-none, fault-on}
+use Rattle.image.proofs.Header.{cell-bad, cell-fine}
 use Rattle.image.specs.Check.{cellFault, firstFault}
 use Rattle.image.specs.Words.{cellOf}
 use borrow.Author.Needs.{needs}

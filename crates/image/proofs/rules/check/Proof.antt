@@ -1,5 +1,5 @@
 -- `image::rules::check` meets its contract: Short, then the faults of an image with a header. Assumes nothing.
-use Rattle.image.proofs.Laws.{answer-at, answer-fine, rule-no}
+use Rattle.image.proofs.Faults.{answer-at, answer-fine, rule-no}
 use Rattle.image.specs.Check.{checkOf, faultOf}
 use borrow.Author.Needs.{needs}
 use borrow.Author.Tests.{lt-leb}

@@ -1,7 +1,7 @@
 -- `image::rules::codes_legal` meets its contract. The invariant: the test passes everywhere exactly if it passes from the entry reached on. Assumes nothing.
 use Prim.Native.Nat.{_+_, _≤_}
 use Rattle.codes.specs.Codes.{legal}
-use Rattle.image.proofs.Laws.{all-no, all-none, all-on}
+use Rattle.image.proofs.Entries.{all-no, all-none, all-on}
 use Rattle.lists.specs.Lists.{every}
 use Rattle.image.specs.Words.{entries, entriesOf}
 use borrow.Author.Needs.{needs}

@@ -1,6 +1,6 @@
 -- `image::rules::entries_lower` meets its contract. The invariant: the test passes everywhere exactly if it passes from the entry reached on. Assumes nothing.
 use Prim.Native.Nat.{_+_, _≤_}
-use Rattle.image.proofs.Laws.{all-no, all-none, all-on}
+use Rattle.image.proofs.Entries.{all-no, all-none, all-on}
 use Rattle.lists.specs.Lists.{every}
 use Rattle.image.specs.Words.{entries, entriesOf, entryOf}
 use borrow.Author.Needs.{needs}

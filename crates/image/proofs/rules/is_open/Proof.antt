@@ -1,6 +1,6 @@
 -- `image::rules::is_open` meets its contract. The invariant: the record reached keeps the open rule, and is open exactly if record n is. The measure is its number. Assumes nothing.
 use Prim.Native.Nat.{_<_}
-use Rattle.image.proofs.Laws.{last-lower, open-end, open-entry, ready-lower, step-end, step-entry}
+use Rattle.image.proofs.Trees.{last-lower, open-end, open-entry, ready-lower, step-end, step-entry}
 use Rattle.image.specs.Sound.{Ready}
 use Rattle.image.specs.Tree.{open?, settled, tree}
 use borrow.Author.Needs.{needs}
@@ -36,7 +36,7 @@ loop-again c =
     let y = l .inv .0 in
     let s = step-entry img (l .at) _ (c .before .before .before .step-from .ensures) (c .before .e .given .1) in
     let h : c .before .e .given .0 .0 < l .at = omega (arith, last-lower img (l .at) y (s .0), s .1) in
-    (ready-lower img (l .at) _ y h, y .before _ h .settles, l .inv .2 ∙ open-entry img (l .at) y (l .inv .1) (s .0) ∙ ap (λ k. open? (tree img k)) (sym (s .1)))
+    (ready-lower img (l .at) _ (y .formed) h, y .formed .before _ h .settles, l .inv .2 ∙ open-entry img (l .at) y (l .inv .1) (s .0) ∙ ap (λ k. open? (tree img k)) (sym (s .1)))
 
 returns : tie.Need-returns Inv-loop μ-loop
 returns c =

@@ -1,6 +1,7 @@
 -- `image::rules::records_fault` meets its contract. The invariant: every record passed is good, and the first fault is that from the record reached on. Assumes nothing.
 use Prim.Native.Nat.{_-_, _<_, _≤_, ℕ}
-use Rattle.image.proofs.Laws.{fault-here, fault-none, fault-on, good}
+use Rattle.image.proofs.Faults.{fault-here, fault-none, fault-on}
+use Rattle.image.proofs.Records.{good}
 use Rattle.image.specs.Check.{firstFault, recordFault}
 use Rattle.image.specs.Sound.{Good}
 use borrow.Author.Count.{below-more}

@@ -1,8 +1,7 @@
 -- `image::rules::row_of` meets its contract, kind by kind. Assumes nothing.
 use Prim.Native.Nat.{_+_, _≤_}
-use Rattle.image.proofs.Laws.{action-inside, alone-row, many-row, pair-row, weight-codes, weight-one}
+use Rattle.image.proofs.Trees.{action-inside, alone-row, many-row, pair-row, weight-codes, weight-one}
 use Rattle.image.specs.Record.{actionOf}
-use Rattle.image.specs.declared.record.Action.the-variants as code
 use borrow.Author.Needs.{needs}
 use mathlib.Core.Path.{_∙_, ap, sym}
 use native.Mathlib.Omega.{arith}
@@ -19,7 +18,7 @@ returns-2 : tie.Need-returns-2
 unfolding actionOf
 returns-2 c =
     let y = c .before .before .before .before .before .before .pre .1 in
-    many-row _ _ _ _ _ _ (c .before .before .before .before .before .before .pre .0) y (omega arith) (action-inside _ _ (y .inside) ∙ rw (← c .before .before .before .before .field .ensures, c .before .before .if2 .taken, ← c .before .field2 .ensures, ← c .field3 .ensures))
+    many-row _ _ _ _ _ _ (c .before .before .before .before .before .before .pre .0) y (action-inside _ _ (y .formed .inside) ∙ rw (← c .before .before .before .before .field .ensures, c .before .before .if2 .taken, ← c .before .field2 .ensures, ← c .field3 .ensures))
 
 returns-3 : tie.Need-returns-3
 returns-3 c = pair-row _ _ _ _ (c .before .before .before .before .before .pre .0) (c .before .before .before .before .before .pre .1) (sym (c .before .before .before .field .ensures) ∙ c .if3 .taken)

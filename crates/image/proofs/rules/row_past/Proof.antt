@@ -1,6 +1,7 @@
 -- `image::rules::row_past` meets its contract. The invariant: record n weighs what was passed and what the row reached does, which is of record k, at most n. The measure is k. Assumes nothing.
 use Prim.Native.Nat.{_+_, _-_, _<_, _≤_}
-use Rattle.image.proofs.Laws.{ready-lower, row-head, row-none, row-on, rowed-still}
+use Rattle.image.proofs.Entries.{row-head, row-none, row-on, rowed-still}
+use Rattle.image.proofs.Trees.{ready-lower}
 use Rattle.image.specs.Sound.{Ready, Rowed}
 use Rattle.image.specs.Tree.{named, tree, weight, weights}
 use Rattle.image.specs.Words.{wordsFrom}
@@ -29,7 +30,7 @@ low c =
     omega (arith, ltb-true _ (l .k) (row-head (now (c .before .before .before .before .before .before .args .image)) (l .row .at) (l .row .count) (λ j. ltb j (l .k)) (omega (arith, c .before .if1 .taken)) (l .inv .2 .lower)), c .word .ensures)
 
 row-of-requires-2 : tie.Need-row-of-requires-2 Inv-loop μ-loop
-row-of-requires-2 c κs = (c .before .before .before .before .before .before .pre .0, ready-lower _ _ _ (c .before .before .before .loop .inv .1) (low c))
+row-of-requires-2 c κs = (c .before .before .before .before .before .before .pre .0, ready-lower _ _ _ (c .before .before .before .loop .inv .1 .formed) (low c))
 
 -- what was passed, that record's own part and its row weigh what record n does
 sums : (c : tie.After-row-of2 Inv-loop μ-loop) → c .before .before .before .before .loop .row .own + (c .row-of2 .result .own + weights (named (tree (now (c .before .before .before .before .before .before .before .args .image))) (wordsFrom (now (c .before .before .before .before .before .before .before .args .image)) (c .row-of2 .result .at) (c .row-of2 .result .count)))) ≡ weight (tree (now (c .before .before .before .before .before .before .before .args .image)) (c .before .before .before .before .before .before .before .args .n))
@@ -46,7 +47,7 @@ loop-again : tie.Need-loop-again Inv-loop μ-loop
 loop-again c =
     let l = c .before .before .before .before .before .before .loop in
     let h = low (c .before .before .before) in
-    (omega (arith, h, l .inv .0), ready-lower _ _ _ (l .inv .1) h, c .before .before .row-of2 .ensures .0, omega (arith, sums (c .before .before)))
+    (omega (arith, h, l .inv .0), ready-lower _ _ _ (l .inv .1 .formed) h, c .before .before .row-of2 .ensures .0, omega (arith, sums (c .before .before)))
 
 returns : tie.Need-returns Inv-loop μ-loop
 returns c =

@@ -1,6 +1,7 @@
 -- `image::rules::shut_but_last` meets its contract. The invariant: the rule holds everywhere exactly if it holds from the entry reached on. Assumes nothing.
 use Prim.Native.Nat.{_+_, _<_, _≤_}
-use Rattle.image.proofs.Laws.{all-head, all-tail, list-placed, ready-lower, shut-end, shut-no, shut-on}
+use Rattle.image.proofs.Entries.{all-head, all-tail, shut-end, shut-no, shut-on}
+use Rattle.image.proofs.Trees.{list-placed, ready-lower}
 use Rattle.lists.specs.Lists.{every}
 use Rattle.image.specs.Tree.{named, open?, shutButLast, tree}
 use Rattle.image.specs.Words.{entries, entriesOf}

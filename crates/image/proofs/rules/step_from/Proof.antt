@@ -1,5 +1,5 @@
 -- `image::rules::step_from` meets its contract: a MultipleActions with an entry has its last one in the list. Assumes nothing.
-use Rattle.image.proofs.Laws.{has-entry, list-placed, many-words, step-none, step-on, step-other}
+use Rattle.image.proofs.Trees.{has-entry, list-placed, many-words, step-none, step-on, step-other}
 use Rattle.image.specs.Record.{hasEntry, lastEntry, listEnd}
 use Rattle.image.specs.declared.rules.Step.the-variants as step
 use borrow.Author.Needs.{needs}

@@ -1,5 +1,5 @@
 -- `image::rules::weigh` meets its contract: the record's own part, and its row. Assumes nothing.
-use Rattle.image.proofs.Laws.{row-none}
+use Rattle.image.proofs.Entries.{row-none}
 use Rattle.image.specs.Tree.{tree}
 use borrow.Author.Needs.{needs}
 use denote.Ref.{now}
@@ -14,7 +14,7 @@ returns c =
     omega (arith, r .ensures .1, row-none img (r .result .at) (r .result .count) (tree img) (omega (arith, c .if1 .taken)))
 
 weigh-row-requires : tie.Need-weigh-row-requires
-weigh-row-requires c κs = (c .before .before .before .before .pre .0, c .before .before .before .before .pre .1, c .before .before .row-past .ensures .0)
+weigh-row-requires c κs = (c .before .before .before .before .pre .0, c .before .before .before .before .pre .1 .formed, c .before .before .row-past .ensures .0)
 
 add-result : tie.Need-add-result
 add-result c = omega (arith, c .before .before .before .before .row-past .ensures .1, c .before .weigh-row .ensures .0, c .before .before .before .before .before .before .pre .2)

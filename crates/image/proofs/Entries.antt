@@ -1,0 +1,180 @@
+-- Laws of the list: one step along its entries, what a test of every entry says, and the same words as a row. What the
+-- open rule and the weight say of a stretch that names records.
+-- Assumes nothing.
+use mathlib.Core.Path.{_≡_, refl, sym, ap, _∙_}
+use mathlib.Core.Bool.{Bool, true, false, not, _&&_, _||_}
+use mathlib.Core.List.{List, [], _∷_}
+use mathlib.Core.Logic.{_⊎_, inl, inr, ⊎-elim}
+use Prim.Native.Nat.{ℕ, zero, suc, _+_, _-_, _*_, _<_, _≤_}
+use native.Mathlib.Nat.{le-of-suc-le-suc, not-suc-le-zero}
+use native.Mathlib.Numerals.{sub-one}
+use native.Mathlib.Omega.{arith}
+use borrow.Author.Tests.{leb-true, ltb-true, not-true, lt-ltb}
+use lib.ListN.{length}
+use lib.Dec.{leb, ltb}
+use Rattle.lists.specs.Lists.{every}
+use Rattle.lists.proofs.Laws.{both-true, every-head}
+use Rattle.codes.specs.Codes.{legal}
+use Rattle.image.specs.Words.{listAt, entryOf, entries, wordAt, wordsFrom}
+use Rattle.image.specs.Tree.{Action, end, _&_, named, open?, someOpen, shutButLast, weight, weights}
+use Rattle.image.specs.Sound.{Rowed}
+use Rattle.image.proofs.Faults.{and-yes, and-true, or-false}
+
+-- a legal code fits a byte
+or-cases : (a b c : Bool) → (a || (b && c)) ≡ true → (a ≡ true) ⊎ (c ≡ true)
+or-cases true b c e = inl refl
+or-cases false b c e = inr (both-true b c e .1)
+
+pub below-byte : (k : ℕ) → legal k ≡ true → k < 256
+unfolding legal
+below-byte k e = ⊎-elim (λ h. omega (arith, leb-true k 0xA4 h)) (λ h. omega (arith, leb-true k 0xFB h)) (or-cases (leb k 0xA4) (leb 0xE0 k) (leb k 0xFB) e)
+
+-- one entry, and those after it: every loop over the list rests on this
+pub entries-step : (img : List ℕ) (e n : ℕ) → 0 < n → entries img e n ≡ entryOf img e ∷ entries img (e + 1) (n - 1)
+unfolding entries
+entries-step img e zero h = absurd (not-suc-le-zero h)
+entries-step img e (suc n) h = rw (sub-one (suc n))
+
+entries-none : (img : List ℕ) (e n : ℕ) → n ≤ 0 → entries img e n ≡ []
+unfolding entries
+entries-none img e zero h = refl
+entries-none img e (suc n) h = absurd (not-suc-le-zero h)
+
+pub length-entries : (img : List ℕ) (e n : ℕ) → length (entries img e n) ≡ n
+unfolding entries
+length-entries img e zero = refl
+length-entries img e (suc n) = ap suc (length-entries img (e + 1) n)
+
+-- a test of every entry: it goes on, it stops, it ends; and what its passing says
+module _ (t : ℕ → Bool) (img : List ℕ) (e n : ℕ) where
+  pub all-on : 0 < n → t (entryOf img e) ≡ true → every t (entries img e n) ≡ every t (entries img (e + 1) (n - 1))
+  unfolding every
+  all-on h g = rw (entries-step img e n h, g)
+
+  pub all-no : 0 < n → t (entryOf img e) ≡ false → every t (entries img e n) ≡ false
+  unfolding every
+  all-no h g = rw (entries-step img e n h, g)
+
+  pub all-none : n ≤ 0 → every t (entries img e n) ≡ true
+  unfolding every
+  all-none h = rw (entries-none img e n h)
+
+  pub all-head : 0 < n → every t (entries img e n) ≡ true → t (entryOf img e) ≡ true
+  all-head h g = every-head t _ _ (rw (entries-step img e n h) at g) .0
+
+  pub all-tail : 0 < n → every t (entries img e n) ≡ true → every t (entries img (e + 1) (n - 1)) ≡ true
+  all-tail h g = every-head t _ _ (rw (entries-step img e n h) at g) .1
+
+pub all-at : (t : ℕ → Bool) (img : List ℕ) (e n i : ℕ) → i < n → every t (entries img e n) ≡ true → t (entryOf img (e + i)) ≡ true
+unfolding entries
+all-at t img e zero i h g = absurd (not-suc-le-zero h)
+all-at t img e (suc n) zero h g =
+    let s : e + 0 ≡ e = omega arith in
+    rw s (every-head t _ _ g .0)
+all-at t img e (suc n) (suc i) h g =
+    let s : e + suc i ≡ e + 1 + i = omega arith in
+    rw s (all-at t img (e + 1) n i (le-of-suc-le-suc h) (every-head t _ _ g .1))
+
+pub all-last : (t : ℕ → Bool) (img : List ℕ) (e n : ℕ) → 0 < n → every t (entries img e n) ≡ true → t (entryOf img (e + n - 1)) ≡ true
+all-last t img e n h g =
+    let s : e + n - 1 ≡ e + (n - 1) = omega arith in
+    rw s (all-at t img e n (n - 1) (omega arith) g)
+
+-- a test of two numbers
+all-two : (t : ℕ → Bool) (x y : ℕ) → every t (x ∷ y ∷ []) ≡ (t x && t y)
+unfolding every
+all-two t x y = ap (λ b. t x && b) (and-true (t y))
+
+pub two-of : (t : ℕ → Bool) (x y : ℕ) → every t (x ∷ y ∷ []) ≡ true → (t x ≡ true) × (t y ≡ true)
+two-of t x y e = both-true (t x) (t y) (sym (all-two t x y) ∙ e)
+
+-- the trees that a stretch of the list names, one step along it
+module _ (l : ℕ → Action) (img : List ℕ) (e n : ℕ) where
+  pub named-step : 0 < n → named l (entries img e n) ≡ l (entryOf img e) & named l (entries img (e + 1) (n - 1))
+  unfolding named
+  named-step h = rw (entries-step img e n h)
+
+  pub named-none : n ≤ 0 → named l (entries img e n) ≡ end
+  unfolding named
+  named-none h = rw (entries-none img e n h)
+
+  pub some-none : n ≤ 0 → someOpen (named l (entries img e n)) ≡ false
+  unfolding open?
+  some-none h = rw (named-none h)
+
+-- one word of a row, and those after it
+module _ (img : List ℕ) (at n : ℕ) where
+  words-step : 0 < n → wordsFrom img at n ≡ wordAt img at ∷ wordsFrom img (at + 2) (n - 1)
+  unfolding wordsFrom
+  words-step h =
+      let k : n ≡ suc (n - 1) = omega arith in
+      ap (wordsFrom img at) k
+
+  pub row-head : (t : ℕ → Bool) → 0 < n → every t (wordsFrom img at n) ≡ true → t (wordAt img at) ≡ true
+  row-head t h g = every-head t _ _ (rw (words-step h) at g) .0
+
+  pub row-tail : (t : ℕ → Bool) → 0 < n → every t (wordsFrom img at n) ≡ true → every t (wordsFrom img (at + 2) (n - 1)) ≡ true
+  row-tail t h g = every-head t _ _ (rw (words-step h) at g) .1
+
+  pub row-on : (l : ℕ → Action) → 0 < n → weights (named l (wordsFrom img at n)) ≡ weight (l (wordAt img at)) + weights (named l (wordsFrom img (at + 2) (n - 1)))
+  unfolding weight named
+  row-on l h = rw (words-step h)
+
+  pub row-none : (l : ℕ → Action) → n ≤ 0 → weights (named l (wordsFrom img at n)) ≡ 0
+  unfolding weight named wordsFrom
+  row-none l h =
+      let k : n ≡ 0 = omega arith in
+      rw k
+
+-- numbers below k are below n, where k is not above it
+lower-still : (k n : ℕ) (js : List ℕ) → k ≤ n → every (λ j. ltb j k) js ≡ true → every (λ j. ltb j n) js ≡ true
+unfolding every
+lower-still k n [] h e = refl
+lower-still k n (j ∷ js) h e =
+    let both = every-head (λ j. ltb j k) j js e in
+    sym (and-yes (ltb j n) _ (lt-ltb j n (omega (arith, h, ltb-true j k (both .0)))) (sym (lower-still k n js h (both .1))))
+
+pub rowed-still : (img : List ℕ) (k n at count : ℕ) → k ≤ n → Rowed img k at count → Rowed img n at count
+rowed-still img k n at count h r = record { inside = r .inside; few = r .few; lower = lower-still k n (wordsFrom img at count) h (r .lower) }
+
+-- a stretch of the list is a row
+pub entries-words : (img : List ℕ) (e n : ℕ) → entries img e n ≡ wordsFrom img (listAt img + 2 * e) n
+unfolding entries entryOf wordsFrom
+entries-words img e zero = refl
+entries-words img e (suc n) =
+    let s : listAt img + 2 * e + 2 ≡ listAt img + 2 * (e + 1) = omega arith in
+    rw s (ap (λ r. wordAt img (listAt img + 2 * e) ∷ r) (entries-words img (e + 1) n))
+
+-- the open rule over a stretch of the list: it goes on, it stops, it ends
+module _ (l : ℕ → Action) (img : List ℕ) where
+  shut-step : (e n : ℕ) → 1 < n → shutButLast (named l (entries img e n)) ≡ (not (open? (l (entryOf img e))) && shutButLast (named l (entries img (e + 1) (n - 1))))
+  unfolding shutButLast
+  shut-step e n h =
+      let p : 0 < n = omega arith in
+      let q : 0 < n - 1 = omega arith in
+      rw (named-step l img e n p, named-step l img (e + 1) (n - 1) q)
+
+  pub shut-on : (e n : ℕ) → 1 < n → open? (l (entryOf img e)) ≡ false → shutButLast (named l (entries img e n)) ≡ shutButLast (named l (entries img (e + 1) (n - 1)))
+  shut-on e n h g = rw (shut-step e n h, g)
+
+  pub shut-no : (e n : ℕ) → 1 < n → open? (l (entryOf img e)) ≡ true → shutButLast (named l (entries img e n)) ≡ false
+  shut-no e n h g = rw (shut-step e n h, g)
+
+  pub shut-end : (e n : ℕ) → n ≤ 1 → shutButLast (named l (entries img e n)) ≡ true
+  unfolding shutButLast named entries
+  shut-end e zero h = refl
+  shut-end e (suc zero) h = refl
+  shut-end e (suc (suc n)) h = absurd (not-suc-le-zero (le-of-suc-le-suc h))
+
+  -- where the open rule is kept, a MultipleActions is open exactly if its last entry is
+  pub open-last : (e n : ℕ) → 0 < n → shutButLast (named l (entries img e n)) ≡ true → someOpen (named l (entries img e n)) ≡ open? (l (entryOf img (e + n - 1)))
+  unfolding shutButLast named entries open?
+  open-last e zero h s = absurd (not-suc-le-zero h)
+  open-last e (suc zero) h s =
+      let k : e + suc zero - 1 ≡ e = omega arith in
+      rw k (or-false (open? (l (entryOf img e))))
+  open-last e (suc (suc n)) h s =
+      let k : e + suc (suc n) - 1 ≡ e + 1 + suc n - 1 = omega arith in
+      let both = both-true (not (open? (l (entryOf img e)))) _ s in
+      let p : open? (l (entryOf img e)) ≡ false = not-true _ (both .0) in
+      rw (p, k) (open-last (e + 1) (suc n) (omega arith) (both .1))
