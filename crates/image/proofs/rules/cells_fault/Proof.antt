@@ -22,25 +22,30 @@ abbrev μ-loop : tie.MeasureT-loop
 loop-holds : tie.Need-loop-holds Inv-loop μ-loop
 loop-holds c = (omega arith, rw sub-zero)
 
+abbrev start : tie.In-loop Inv-loop μ-loop → tie.Start Inv-loop μ-loop
+start c = c .before .before .before
+
 word-requires : tie.Need-word-requires Inv-loop μ-loop
 word-requires c κs = omega arith
 
 returns : tie.Need-returns Inv-loop μ-loop
 unfolding cellOf
 returns c =
-    let a = c .before .before .before .before .before .args in
-    let i = c .before .before .before .loop .i in
-    sym (c .before .before .before .loop .inv .1 ∙ fault-here (cellFault (now (a .image))) i (a .count) Cell i (c .before .before .loop-test .taken) (cell-bad (now (a .image)) i (omega arith)))
+    let l = c .before .before in
+    let img = now (start l .args .image) in
+    let i = l .before .loop .i in
+    sym (l .before .loop .inv .1 ∙ fault-here (cellFault img) i _ Cell i (l .loop-test .taken) (cell-bad img i (omega arith)))
 
 loop-again : tie.Need-loop-again Inv-loop μ-loop
 unfolding cellOf
 loop-again c =
-    let a = c .before .before .before .before .before .args in
-    let i = c .before .before .before .loop .i in
-    (omega arith, c .before .before .before .loop .inv .1 ∙ fault-on (cellFault (now (a .image))) i (a .count) (c .before .before .loop-test .taken) (cell-fine (now (a .image)) i (omega arith)))
+    let l = c .before .before in
+    let img = now (start l .args .image) in
+    let i = l .before .loop .i in
+    (omega arith, l .before .loop .inv .1 ∙ fault-on (cellFault img) i _ (l .loop-test .taken) (cell-fine img i (omega arith)))
 
 returns-2 : tie.Need-returns-2 Inv-loop μ-loop
-returns-2 c = sym (c .before .loop .inv .1 ∙ fault-none (cellFault (now (c .before .before .before .args .image))) (c .before .loop .i) (c .before .before .before .args .count) (c .loop-test .left))
+returns-2 c = sym (c .before .loop .inv .1 ∙ fault-none _ _ _ (c .loop-test .left))
 
 pub cells-fault-spec : {M : Type 1} → statement M
 cells-fault-spec = tie.close (tie.spec Inv-loop μ-loop loop-holds (λ c. search needs) (λ c. search needs) word-requires (λ c. search needs) returns (λ c. search needs) (λ c. search needs) loop-again returns-2)

@@ -21,23 +21,26 @@ abbrev μ-loop : tie.MeasureT-loop
 loop-holds : tie.Need-loop-holds Inv-loop μ-loop
 loop-holds c = (c .before .pre .0, refl)
 
+abbrev start : tie.In-loop Inv-loop μ-loop → tie.Start Inv-loop μ-loop
+start c = c .before .before .before
+
 entry-requires : tie.Need-entry-requires Inv-loop μ-loop
-entry-requires c κs = (omega arith, c .before .before .before .pre .1)
+entry-requires c κs = (omega arith, start c .pre .1)
 
 returns : tie.Need-returns Inv-loop μ-loop
 returns c =
-    let a = c .before .before .before .before .before .args in
-    let l = c .before .before .before .loop in
-    sym (l .inv .1 ∙ all-no (λ k. ltb k (a .n)) (now (a .image)) (l .at) (l .left) (c .before .before .loop-test .taken) (le-ltb (entryOf (now (a .image)) (l .at)) (a .n) (omega arith)))
+    let i = c .before .before in
+    let n = start i .args .n in
+    sym (i .before .loop .inv .1 ∙ all-no (λ k. ltb k n) _ _ _ (i .loop-test .taken) (le-ltb (entryOf (now (start i .args .image)) (i .before .loop .at)) n (omega arith)))
 
 loop-again : tie.Need-loop-again Inv-loop μ-loop
 loop-again c =
-    let a = c .before .before .before .before .before .args in
-    let l = c .before .before .before .loop in
-    (omega arith, l .inv .1 ∙ all-on (λ k. ltb k (a .n)) (now (a .image)) (l .at) (l .left) (c .before .before .loop-test .taken) (lt-ltb (entryOf (now (a .image)) (l .at)) (a .n) (omega arith)))
+    let i = c .before .before in
+    let n = start i .args .n in
+    (omega arith, i .before .loop .inv .1 ∙ all-on (λ k. ltb k n) _ _ _ (i .loop-test .taken) (lt-ltb (entryOf (now (start i .args .image)) (i .before .loop .at)) n (omega arith)))
 
 returns-2 : tie.Need-returns-2 Inv-loop μ-loop
-returns-2 c = sym (c .before .loop .inv .1 ∙ all-none (λ k. ltb k (c .before .before .before .args .n)) (now (c .before .before .before .args .image)) (c .before .loop .at) (c .before .loop .left) (c .loop-test .left))
+returns-2 c = sym (c .before .loop .inv .1 ∙ all-none (λ k. ltb k (c .before .before .before .args .n)) _ _ _ (c .loop-test .left))
 
 pub entries-lower-spec : {M : Type 1} → statement M
 entries-lower-spec = tie.close (tie.spec Inv-loop μ-loop loop-holds entry-requires (λ c. search needs) returns (λ c. search needs) (λ c. search needs) (λ c. search needs) loop-again returns-2)

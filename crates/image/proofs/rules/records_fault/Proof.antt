@@ -22,23 +22,26 @@ abbrev μ-loop : tie.MeasureT-loop
 loop-holds : tie.Need-loop-holds Inv-loop μ-loop
 loop-holds c = (omega arith, rw sub-zero, λ k h. absurd (not-suc-le-zero h))
 
+abbrev start : tie.In-loop Inv-loop μ-loop → tie.Start Inv-loop μ-loop
+start c = c .before .before .before
+
 record-fault-requires : tie.Need-record-fault-requires Inv-loop μ-loop
-record-fault-requires c κs = (c .before .before .before .pre .0, c .before .before .before .pre .1, omega arith, c .before .loop .inv .2)
+record-fault-requires c κs = (start c .pre .0, start c .pre .1, omega arith, c .before .loop .inv .2)
 
 returns : tie.Need-returns Inv-loop μ-loop
 returns c =
+    let l = c .before .before .before in
     let e = c .enum-told2 .given .1 in
-    e ∙ sym (c .before .before .before .before .loop .inv .1 ∙ fault-here (recordFault (now (c .before .before .before .before .before .before .args .image))) (c .before .before .before .before .loop .n) (c .before .before .before .before .before .before .args .records) _ _ (c .before .before .before .loop-test .taken) (sym (c .before .before .record-fault .ensures) ∙ e))
+    e ∙ sym (l .before .loop .inv .1 ∙ fault-here _ _ _ _ _ (l .loop-test .taken) (sym (c .before .before .record-fault .ensures) ∙ e))
 
 loop-again : tie.Need-loop-again Inv-loop μ-loop
 loop-again c =
-    let img = now (c .before .before .before .before .before .before .args .image) in
-    let l = c .before .before .before .before .loop in
+    let l = c .before .before .before in
     let fine = sym (c .before .before .record-fault .ensures) ∙ c .enum-told .given .1 in
-    (omega arith, l .inv .1 ∙ fault-on (recordFault img) (l .n) (c .before .before .before .before .before .before .args .records) (c .before .before .before .loop-test .taken) fine, below-more _ _ (l .inv .2) (good img (l .n) (omega arith) fine))
+    (omega arith, l .before .loop .inv .1 ∙ fault-on _ _ _ (l .loop-test .taken) fine, below-more _ _ (l .before .loop .inv .2) (good _ _ (omega arith) fine))
 
 returns-2 : tie.Need-returns-2 Inv-loop μ-loop
-returns-2 c = sym (c .before .loop .inv .1 ∙ fault-none (recordFault (now (c .before .before .before .args .image))) (c .before .loop .n) (c .before .before .before .args .records) (c .loop-test .left))
+returns-2 c = sym (c .before .loop .inv .1 ∙ fault-none _ _ _ (c .loop-test .left))
 
 pub records-fault-spec : {M : Type 1} → statement M
 records-fault-spec = tie.close (tie.spec Inv-loop μ-loop loop-holds record-fault-requires (λ c. search needs) (λ c. search needs) returns (λ c. search needs) (λ c. search needs) loop-again returns-2)
