@@ -31,7 +31,7 @@ use Rattle.image.specs.Table.{tableOf, treeIn, longestBelow, timesOf}
 use Rattle.lists.specs.Lists.{every}
 use Rattle.lists.proofs.Laws.{both-true, every-head}
 use Rattle.image.specs.Check.{headFault, cellFault, recordFault, firstFault, bodyFault, faultOf, answer, checkOf}
-use Rattle.image.specs.Sound.{Ready, Sound, Meant}
+use Rattle.image.specs.Sound.{Sound, Meant}
 use Rattle.image.specs.Use.{areaOf, sourceOf}
 use Rattle.image.specs.declared.words.Shape.{Shape}
 use Rattle.image.specs.declared.record.Action.{Action as Record}
@@ -43,7 +43,7 @@ use Rattle.image.specs.declared.rules.Fault.{Fault}
 use Rattle.image.specs.declared.rules.Fault.the-variants.{Fine, At}
 use Rattle.image.specs.declared.rules.Checked.the-variants.{Accepted}
 use Rattle.image.specs.declared.areas.Source.the-variants.{Operator, BuiltIn}
-use Rattle.image.proofs.Faults.{rule-fine, or-fine, fine-all}
+use Rattle.image.proofs.Faults.{not-or, rule-fine, or-fine, fine-all}
 use Rattle.image.proofs.Header.{framed, cell-kept}
 use Rattle.image.proofs.Entries.{all-at, two-of, below-byte}
 use Rattle.image.proofs.Trees.{meant, either, by-kind}
@@ -93,11 +93,6 @@ past : (img : List ℕ) (n : ℕ) → recordsOf img ≤ n → actionAt img n ≡
 unfolding actionAt
 past img n h = rw (le-ltb n (recordsOf img) h)
 
-pub ready : (img : List ℕ) (n : ℕ) → Sound img → n < recordsOf img → Ready img n
-ready img n s h =
-    let g = s .records n h in
-    record { formed = record { inside = h; form = g .form; before = λ k l. s .records k (omega arith) }; listed = g .listed; codes = g .codes; lower = g .lower }
-
 past-meant : (img : List ℕ) (n : ℕ) → actionAt img n ≡ code.NoOp → Meant img n code.NoOp
 unfolding tree meaning listEnd codesIn childrenIn every
 past-meant img n e = record { is = rw e; listed = omega arith; codes = refl; lower = refl }
@@ -106,7 +101,7 @@ pub tells : (img : List ℕ) (n : ℕ) {r x : Record} → Sound img → r ≡ ac
 tells img n {r} {x} s e f = go (decLt n (recordsOf img))
   where
     go : Dec (n < recordsOf img) → Meant img n x
-    go (yes l) = meant img n (ready img n s l) e f
+    go (yes l) = meant img n (s .records n l) e f
     go (no g) =
         let p = past img n (omega arith) in
         subst (λ x. Meant img n x) (sym p ∙ sym e ∙ f) (past-meant img n p)
@@ -196,10 +191,6 @@ light img n s = go (decLt n (recordsOf img))
     go (no g) = rw (past-meant img n (past img n (omega arith)) .is) (omega arith)
 
 -- closed is the other of open
-not-or : (a b : Bool) → not (a || b) ≡ (not a && not b)
-not-or true b = refl
-not-or false b = refl
-
 mutual
   unfolding open? closed
 

@@ -1,24 +1,24 @@
--- Laws of the list: one step along its entries, what a test of every entry says, and the same words as a row. What the
--- open rule and the weight say of a stretch that names records.
+-- Laws of the list: one step along its entries, what a test of every entry says, and the same words as a row.
 -- Assumes nothing.
 use mathlib.Core.Path.{_≡_, refl, sym, ap, _∙_}
-use mathlib.Core.Bool.{Bool, true, false, not, _&&_, _||_}
-use mathlib.Core.List.{List, [], _∷_}
+use mathlib.Core.Bool.{Bool, true, false, _&&_, _||_}
+use mathlib.Core.List.{List, [], _∷_, _++_}
 use mathlib.Core.Logic.{_⊎_, inl, inr, ⊎-elim}
 use Prim.Native.Nat.{ℕ, zero, suc, _+_, _-_, _*_, _<_, _≤_}
 use native.Mathlib.Nat.{le-of-suc-le-suc, not-suc-le-zero}
 use native.Mathlib.Numerals.{sub-one}
 use native.Mathlib.Omega.{arith}
-use borrow.Author.Tests.{leb-true, ltb-true, not-true, lt-ltb}
+use borrow.Author.Tests.{leb-true, ltb-true, lt-ltb}
 use lib.ListN.{length}
 use lib.Dec.{leb, ltb}
 use Rattle.lists.specs.Lists.{every}
 use Rattle.lists.proofs.Laws.{both-true, every-head}
 use Rattle.codes.specs.Codes.{legal}
 use Rattle.image.specs.Words.{listAt, entryOf, entries, wordAt, wordsFrom}
-use Rattle.image.specs.Tree.{Action, end, _&_, named, open?, someOpen, shutButLast, weight, weights}
+use Rattle.image.specs.Tree.{Action, end, _&_, named}
+use Rattle.image.specs.Heft.{heft, hefts}
 use Rattle.image.specs.Sound.{Rowed}
-use Rattle.image.proofs.Faults.{and-yes, and-true, or-false}
+use Rattle.image.proofs.Faults.{and-yes, and-true}
 
 -- a legal code fits a byte
 or-cases : (a b c : Bool) → (a || (b && c)) ≡ true → (a ≡ true) ⊎ (c ≡ true)
@@ -75,13 +75,8 @@ all-at t img e (suc n) (suc i) h g =
     let s : e + suc i ≡ e + 1 + i = omega arith in
     rw s (all-at t img (e + 1) n i (le-of-suc-le-suc h) (every-head t _ _ g .1))
 
-pub all-last : (t : ℕ → Bool) (img : List ℕ) (e n : ℕ) → 0 < n → every t (entries img e n) ≡ true → t (entryOf img (e + n - 1)) ≡ true
-all-last t img e n h g =
-    let s : e + n - 1 ≡ e + (n - 1) = omega arith in
-    rw s (all-at t img e n (n - 1) (omega arith) g)
-
 -- a test of two numbers
-all-two : (t : ℕ → Bool) (x y : ℕ) → every t (x ∷ y ∷ []) ≡ (t x && t y)
+pub all-two : (t : ℕ → Bool) (x y : ℕ) → every t (x ∷ y ∷ []) ≡ (t x && t y)
 unfolding every
 all-two t x y = ap (λ b. t x && b) (and-true (t y))
 
@@ -98,10 +93,6 @@ module _ (l : ℕ → Action) (img : List ℕ) (e n : ℕ) where
   unfolding named
   named-none h = rw (entries-none img e n h)
 
-  pub some-none : n ≤ 0 → someOpen (named l (entries img e n)) ≡ false
-  unfolding open?
-  some-none h = rw (named-none h)
-
 -- one word of a row, and those after it
 module _ (img : List ℕ) (at n : ℕ) where
   words-step : 0 < n → wordsFrom img at n ≡ wordAt img at ∷ wordsFrom img (at + 2) (n - 1)
@@ -116,15 +107,49 @@ module _ (img : List ℕ) (at n : ℕ) where
   pub row-tail : (t : ℕ → Bool) → 0 < n → every t (wordsFrom img at n) ≡ true → every t (wordsFrom img (at + 2) (n - 1)) ≡ true
   row-tail t h g = every-head t _ _ (rw (words-step h) at g) .1
 
-  pub row-on : (l : ℕ → Action) → 0 < n → weights (named l (wordsFrom img at n)) ≡ weight (l (wordAt img at)) + weights (named l (wordsFrom img (at + 2) (n - 1)))
-  unfolding weight named
+  pub row-on : (l : ℕ → Action) → 0 < n → hefts (named l (wordsFrom img at n)) ≡ heft (l (wordAt img at)) + hefts (named l (wordsFrom img (at + 2) (n - 1)))
+  unfolding hefts named
   row-on l h = rw (words-step h)
 
-  pub row-none : (l : ℕ → Action) → n ≤ 0 → weights (named l (wordsFrom img at n)) ≡ 0
-  unfolding weight named wordsFrom
+  pub row-none : (l : ℕ → Action) → n ≤ 0 → hefts (named l (wordsFrom img at n)) ≡ 0
+  unfolding hefts named wordsFrom
   row-none l h =
       let k : n ≡ 0 = omega arith in
       rw k
+
+  pub below-on : (t : ℕ → Bool) → 0 < n → t (wordAt img at) ≡ true → every t (wordsFrom img at n) ≡ every t (wordsFrom img (at + 2) (n - 1))
+  unfolding every
+  below-on t h e = rw (words-step h, e)
+
+  pub below-no : (t : ℕ → Bool) → 0 < n → t (wordAt img at) ≡ false → every t (wordsFrom img at n) ≡ false
+  unfolding every
+  below-no t h e = rw (words-step h, e)
+
+  pub below-none : (t : ℕ → Bool) → n ≤ 0 → every t (wordsFrom img at n) ≡ true
+  unfolding every wordsFrom
+  below-none t h =
+      let k : n ≡ 0 = omega arith in
+      rw k
+
+pub length-words : (img : List ℕ) (at n : ℕ) → length (wordsFrom img at n) ≡ n
+unfolding wordsFrom
+length-words img at zero = refl
+length-words img at (suc n) = ap suc (length-words img (at + 2) n)
+
+-- a row is its words but the last, and the last
+words-end : (img : List ℕ) (at n : ℕ) → wordsFrom img at (suc n) ≡ wordsFrom img at n ++ wordAt img (at + 2 * n) ∷ []
+unfolding wordsFrom
+words-end img at zero =
+    let s : at + 2 * 0 ≡ at = omega arith in
+    rw s
+words-end img at (suc n) =
+    let s : at + 2 * suc n ≡ at + 2 + 2 * n = omega arith in
+    rw s (ap (λ ks. wordAt img at ∷ ks) (words-end img (at + 2) n))
+
+pub words-last : (img : List ℕ) (at n : ℕ) → 0 < n → wordsFrom img at n ≡ wordsFrom img at (n - 1) ++ wordAt img (at + 2 * (n - 1)) ∷ []
+words-last img at n h =
+    let k : n ≡ suc (n - 1) = omega arith in
+    ap (wordsFrom img at) k ∙ words-end img at (n - 1)
 
 -- numbers below k are below n, where k is not above it
 lower-still : (k n : ℕ) (js : List ℕ) → k ≤ n → every (λ j. ltb j k) js ≡ true → every (λ j. ltb j n) js ≡ true
@@ -144,37 +169,3 @@ entries-words img e zero = refl
 entries-words img e (suc n) =
     let s : listAt img + 2 * e + 2 ≡ listAt img + 2 * (e + 1) = omega arith in
     rw s (ap (λ r. wordAt img (listAt img + 2 * e) ∷ r) (entries-words img (e + 1) n))
-
--- the open rule over a stretch of the list: it goes on, it stops, it ends
-module _ (l : ℕ → Action) (img : List ℕ) where
-  shut-step : (e n : ℕ) → 1 < n → shutButLast (named l (entries img e n)) ≡ (not (open? (l (entryOf img e))) && shutButLast (named l (entries img (e + 1) (n - 1))))
-  unfolding shutButLast
-  shut-step e n h =
-      let p : 0 < n = omega arith in
-      let q : 0 < n - 1 = omega arith in
-      rw (named-step l img e n p, named-step l img (e + 1) (n - 1) q)
-
-  pub shut-on : (e n : ℕ) → 1 < n → open? (l (entryOf img e)) ≡ false → shutButLast (named l (entries img e n)) ≡ shutButLast (named l (entries img (e + 1) (n - 1)))
-  shut-on e n h g = rw (shut-step e n h, g)
-
-  pub shut-no : (e n : ℕ) → 1 < n → open? (l (entryOf img e)) ≡ true → shutButLast (named l (entries img e n)) ≡ false
-  shut-no e n h g = rw (shut-step e n h, g)
-
-  pub shut-end : (e n : ℕ) → n ≤ 1 → shutButLast (named l (entries img e n)) ≡ true
-  unfolding shutButLast named entries
-  shut-end e zero h = refl
-  shut-end e (suc zero) h = refl
-  shut-end e (suc (suc n)) h = absurd (not-suc-le-zero (le-of-suc-le-suc h))
-
-  -- where the open rule is kept, a MultipleActions is open exactly if its last entry is
-  pub open-last : (e n : ℕ) → 0 < n → shutButLast (named l (entries img e n)) ≡ true → someOpen (named l (entries img e n)) ≡ open? (l (entryOf img (e + n - 1)))
-  unfolding shutButLast named entries open?
-  open-last e zero h s = absurd (not-suc-le-zero h)
-  open-last e (suc zero) h s =
-      let k : e + suc zero - 1 ≡ e = omega arith in
-      rw k (or-false (open? (l (entryOf img e))))
-  open-last e (suc (suc n)) h s =
-      let k : e + suc (suc n) - 1 ≡ e + 1 + suc n - 1 = omega arith in
-      let both = both-true (not (open? (l (entryOf img e)))) _ s in
-      let p : open? (l (entryOf img e)) ≡ false = not-true _ (both .0) in
-      rw (p, k) (open-last (e + 1) (suc n) (omega arith) (both .1))

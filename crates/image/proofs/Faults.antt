@@ -1,7 +1,7 @@
 -- Laws of a check that gives the first fault: tests, a rule, the first fault of two and of many places, the answer.
 -- Assumes nothing.
 use mathlib.Core.Path.{_≡_, refl}
-use mathlib.Core.Bool.{Bool, true, false, _&&_, _||_}
+use mathlib.Core.Bool.{Bool, true, false, not, _&&_, _||_}
 use Prim.Native.Nat.{ℕ, zero, suc, _+_, _-_, _<_, _≤_}
 use native.Mathlib.Nat.{le-of-suc-le-suc, not-suc-le-zero}
 use native.Mathlib.Omega.{arith}
@@ -12,7 +12,7 @@ use Rattle.image.specs.declared.rules.Checked.the-variants.{Accepted, Re
 use Rattle.image.specs.declared.rules.Fault.{Fault}
 use Rattle.image.specs.declared.rules.Fault.the-variants.{Fine, At}
 
--- two tests, by the first
+-- two tests
 pub and-no : (a b : Bool) → a ≡ false → false ≡ (a && b)
 and-no a b e = rw e
 
@@ -22,6 +22,18 @@ and-yes a b e f = rw e f
 pub and-true : (a : Bool) → (a && true) ≡ a
 and-true true = refl
 and-true false = refl
+
+pub and-false : (a : Bool) → (a && false) ≡ false
+and-false true = refl
+and-false false = refl
+
+pub and-assoc : (a b c : Bool) → (a && (b && c)) ≡ ((a && b) && c)
+and-assoc true b c = refl
+and-assoc false b c = refl
+
+pub not-or : (a b : Bool) → not (a || b) ≡ (not a && not b)
+not-or true b = refl
+not-or false b = refl
 
 pub or-false : (a : Bool) → (a || false) ≡ a
 or-false true = refl

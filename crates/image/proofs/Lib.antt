@@ -2,6 +2,7 @@ pub mod Faults
 pub mod Header
 pub mod Entries
 pub mod Trees
+pub mod Hefts
 pub mod Records
 pub mod Chosen
 pub mod Accepted

@@ -1,29 +1,32 @@
 -- Laws of a record's rules: its form, the rules that its kind can break, and what is known where all are kept.
 -- Assumes nothing.
-use mathlib.Core.Path.{_≡_, refl, sym, ap, _∙_}
+use mathlib.Core.Path.{_≡_, refl, sym, ap, subst, _∙_}
 use mathlib.Core.Bool.{true, false, not, _&&_}
-use mathlib.Core.List.{List}
+use mathlib.Core.List.{List, [], _∷_, _++_}
 use mathlib.Core.Logic.{_⊎_, inl, inr}
-use Prim.Native.Nat.{ℕ, _+_, _<_, _≤_}
+use Prim.Native.Nat.{ℕ, _+_, _-_, _*_, _<_, _≤_}
 use native.Mathlib.Omega.{arith}
 use borrow.Author.Tests.{leb-true}
+use lib.ListN.{length}
 use lib.Dec.{eqb, leb, ltb}
 use Rattle.lists.specs.Lists.{every}
 use Rattle.lists.proofs.Laws.{both-true}
 use Rattle.codes.specs.Codes.{legal}
 use Rattle.refusal.specs.declared.Refusal.the-variants as refusal
-use Rattle.image.specs.Words.{recordsOf, entriesOf, fieldOf, entries}
+use Rattle.image.specs.Words.{recordsOf, entriesOf, fieldOf, entries, wordAt, wordsFrom}
 use Rattle.image.specs.Record.{actionOf, actionAt, codesIn, childrenIn, listEnd}
-use Rattle.image.specs.Tree.{named, meaning, tree, open?, shutButLast, settled, weight, weights}
+use Rattle.image.specs.Tree.{Action, end, _&_, named, meaning, tree, open?, someOpen, shutButLast, settled, weight, weights}
 use Rattle.image.specs.Check.{rule, form, formGood, recordFault}
-use Rattle.image.specs.Sound.{Good, Formed}
+use Rattle.image.specs.Heft.{openMark, highMark, hefts, heftOf}
+use Rattle.image.specs.Sound.{Placed, Good, Formed}
 use Rattle.image.specs.declared.record.Action.{Action as Record}
 use Rattle.image.specs.declared.record.Action.the-variants as code
 use Rattle.image.specs.declared.rules.Fault.{Fault}
 use Rattle.image.specs.declared.rules.Fault.the-variants.{Fine, At}
-use Rattle.image.proofs.Faults.{and-true, rule-no, rule-yes, rule-fine, rule-with}
-use Rattle.image.proofs.Entries.{length-entries}
+use Rattle.image.proofs.Faults.{and-true, or-false, not-or, rule-no, rule-yes, rule-fine, rule-with}
+use Rattle.image.proofs.Entries.{length-entries, length-words, words-last, all-two}
 use Rattle.image.proofs.Trees.{tree-step, action-inside, by-kind}
+use Rattle.image.proofs.Hefts.{heft-most, sum-high, sum-low, sum-open, sum-shut, last-high, last-low, last-open, last-shut, last-weighs, entries-row, pair-words}
 
 -- the entries of a record whose form is good are in the list
 form-lists : (e k a b c : ℕ) → form e k a b c ≡ true → ((k ≡ 3) ⊎ (k ≡ 4)) → a + b ≤ e
@@ -76,11 +79,15 @@ module _ (img : List ℕ) (n : ℕ) (f : Formed img n) where
   unfolding rule codesIn childrenIn every meaning settled weight
   codes-rules a b e = ap (λ k. rule (every legal (entries img a b)) refusal.Code n (rule (leb (1 + k) 64) refusal.Weight n Fine)) (sym (length-entries img a b)) ∙ rules-past (code.MultipleKeyCodes a b) e
 
-  pub actions-rules : (a b : ℕ) → actionAt img n ≡ code.MultipleActions a b → rule (every (λ k. ltb k n) (entries img a b)) refusal.Child n (rule (shutButLast (named (tree img) (entries img a b))) refusal.Nested n (rule (leb (1 + weights (named (tree img) (entries img a b))) 64) refusal.Weight n Fine)) ≡ recordFault img n
+  actions-rules : (a b : ℕ) → actionAt img n ≡ code.MultipleActions a b → rule (every (λ k. ltb k n) (entries img a b)) refusal.Child n (rule (shutButLast (named (tree img) (entries img a b))) refusal.Nested n (rule (leb (1 + weights (named (tree img) (entries img a b))) 64) refusal.Weight n Fine)) ≡ recordFault img n
   unfolding rule codesIn childrenIn every meaning settled weight
   actions-rules a b e = rules-past (code.MultipleActions a b) e
 
-  pub hold-tap-rules : (t h p : ℕ) → actionAt img n ≡ code.HoldTap t h p → rule (ltb h n && ltb p n) refusal.Child n (rule (not (open? (tree img h)) && not (open? (tree img p))) refusal.Nested n (rule (leb (1 + (weight (tree img h) + weight (tree img p))) 64) refusal.Weight n Fine)) ≡ recordFault img n
+  pub empty-rules : (a b : ℕ) → actionAt img n ≡ code.MultipleActions a b → b ≡ 0 → Fine ≡ recordFault img n
+  unfolding rule entries every named shutButLast weight
+  empty-rules a b e z = rw z at (actions-rules a b e)
+
+  hold-tap-rules : (t h p : ℕ) → actionAt img n ≡ code.HoldTap t h p → rule (ltb h n && ltb p n) refusal.Child n (rule (not (open? (tree img h)) && not (open? (tree img p))) refusal.Nested n (rule (leb (1 + (weight (tree img h) + weight (tree img p))) 64) refusal.Weight n Fine)) ≡ recordFault img n
   unfolding rule codesIn childrenIn every meaning settled weight
   hold-tap-rules t h p e = rw (← and-true (ltb p n)) (rules-past (code.HoldTap t h p) e)
 
@@ -101,3 +108,86 @@ good img n h e =
     let e4 = rule-fine _ refusal.Nested n _ (e3 .1) in
     let e5 = rule-fine _ refusal.Weight n _ (e4 .1) in
     record { form = e1 .0; listed = listed-inside img n h (e1 .0); codes = e2 .0; lower = e3 .0; settles = e4 .0; light = leb-true (weight (tree img n)) 64 (e5 .0) }
+
+-- the entries of a MultipleActions but the last, and the last, as the check reads them
+abbrev mostOf : List ℕ → ℕ → ℕ → ℕ → List ℕ
+mostOf img l first count = wordsFrom img (l + 2 * first) (count - 1)
+
+abbrev lastOf : List ℕ → ℕ → ℕ → ℕ → ℕ
+lastOf img l first count = wordAt img (l + 2 * first + 2 * (count - 1))
+
+-- a MultipleActions that has entries, by what these come to
+module _ (img : List ℕ) (r l n first count : ℕ) (p : Placed img r l) (f : Formed img n) (is : actionAt img n ≡ code.MultipleActions first count) (some : 0 < count) where
+  few : length (mostOf img l first count) ≤ 1023
+  unfolding listEnd
+  few =
+      let listed : first + count ≤ entriesOf img = subst (λ x. listEnd x ≤ entriesOf img) is (listed-inside img n (f .inside) (f .form)) in
+      omega (arith, listed, length-words img (l + 2 * first) (count - 1), p .framed .entries)
+
+  all-rules : rule (every (λ k. ltb k n) (mostOf img l first count ++ lastOf img l first count ∷ [])) refusal.Child n (rule (shutButLast (named (tree img) (mostOf img l first count ++ lastOf img l first count ∷ []))) refusal.Nested n (rule (leb (1 + weights (named (tree img) (mostOf img l first count ++ lastOf img l first count ∷ []))) 64) refusal.Weight n Fine)) ≡ recordFault img n
+  all-rules = rw (entries-row img r l first count p ∙ words-last img (l + 2 * first) count some) at (actions-rules img n f first count is)
+
+  module _ {most last : ℕ} (em : most ≡ heftOf img n (mostOf img l first count)) (el : last ≡ heftOf img n (wordsFrom img (l + 2 * first + 2 * (count - 1)) 1)) where
+    one : last ≡ heftOf img n (lastOf img l first count ∷ [])
+    unfolding wordsFrom
+    one = el
+
+    pub sums-small : (most ≤ highMark) × (last ≤ highMark)
+    sums-small = (omega (arith, em, heft-most img n (mostOf img l first count) f (omega (arith, few))), omega (arith, one, heft-most img n (lastOf img l first count ∷ []) f (omega arith)))
+
+    pub sums-high : highMark ≤ most + last → At refusal.Child n ≡ recordFault img n
+    sums-high h = rule-no _ _ _ _ (last-high img n f (mostOf img l first count) (lastOf img l first count) few (omega (arith, em, one))) ∙ all-rules
+
+    module _ (low : most + last < highMark) where
+      small : heftOf img n (mostOf img l first count) + heftOf img n (lastOf img l first count ∷ []) < highMark
+      small = omega (arith, em, one)
+
+      pub sums-open : openMark ≤ most → At refusal.Nested n ≡ recordFault img n
+      sums-open h = rule-yes _ _ _ _ (last-low img n f _ _ few small) (rule-no _ _ _ _ (last-open img n f _ _ few small (omega (arith, em)))) ∙ all-rules
+
+      module _ (shut : most < openMark) where
+        weighed : (w : ℕ) → weights (named (tree img) (mostOf img l first count ++ lastOf img l first count ∷ [])) ≡ w → rule (leb (1 + w) 64) refusal.Weight n Fine ≡ recordFault img n
+        weighed w e = rule-yes _ _ _ _ (last-low img n f _ _ few small) (rule-yes _ _ _ _ (last-shut img n f _ _ few small (omega (arith, em))) (ap (λ w. rule (leb (1 + w) 64) refusal.Weight n Fine) (sym e))) ∙ all-rules
+
+        pub sums-weigh-open : openMark ≤ last → rule (leb (1 + (most + (last - openMark))) 64) refusal.Weight n Fine ≡ recordFault img n
+        sums-weigh-open h = weighed (most + (last - openMark)) (omega (arith, em, one, last-weighs img n f _ _ few small (omega (arith, em)) .0 (omega (arith, one))))
+
+        pub sums-weigh : last < openMark → rule (leb (1 + (most + last)) 64) refusal.Weight n Fine ≡ recordFault img n
+        sums-weigh h = weighed (most + last) (omega (arith, em, one, last-weighs img n f _ _ few small (omega (arith, em)) .1 (omega (arith, one))))
+
+-- a HoldTap, by what hold and tap come to
+shut-two : (h p : Action) → (not (open? h) && not (open? p)) ≡ not (someOpen (h & (p & end)))
+unfolding open?
+shut-two h p = rw (or-false (open? p)) (sym (not-or (open? h) (open? p)))
+
+module _ (img : List ℕ) (r l n : ℕ) (p : Placed img r l) (f : Formed img n) (is : fieldOf img n 0 ≡ 7) {sum : ℕ} (es : sum ≡ heftOf img n (wordsFrom img (r + 8 * n + 4) 2)) where
+  two : sum ≡ heftOf img n (fieldOf img n 4 ∷ fieldOf img n 6 ∷ [])
+  two = es ∙ ap (heftOf img n) (pair-words img r l n p)
+
+  two-rules : rule (ltb (fieldOf img n 4) n && ltb (fieldOf img n 6) n) refusal.Child n (rule (not (open? (tree img (fieldOf img n 4))) && not (open? (tree img (fieldOf img n 6)))) refusal.Nested n (rule (leb (1 + (weight (tree img (fieldOf img n 4)) + weight (tree img (fieldOf img n 6)))) 64) refusal.Weight n Fine)) ≡ recordFault img n
+  unfolding actionOf
+  two-rules = hold-tap-rules img n f (fieldOf img n 2) (fieldOf img n 4) (fieldOf img n 6) (action-inside img n (f .inside) ∙ rw is)
+
+  pub pair-small : sum ≤ highMark
+  pair-small = omega (arith, two, heft-most img n (fieldOf img n 4 ∷ fieldOf img n 6 ∷ []) f (omega arith))
+
+  pub pair-high : highMark ≤ sum → At refusal.Child n ≡ recordFault img n
+  pair-high h = rule-no _ _ _ _ (sym (all-two (λ k. ltb k n) _ _) ∙ sum-high img n f (fieldOf img n 4 ∷ fieldOf img n 6 ∷ []) (omega arith) (omega (arith, two))) ∙ two-rules
+
+  module _ (low : sum < highMark) where
+    known : (every (λ k. ltb k n) (fieldOf img n 4 ∷ fieldOf img n 6 ∷ []) ≡ true) × (heftOf img n (fieldOf img n 4 ∷ fieldOf img n 6 ∷ []) ≡ hefts (named (tree img) (fieldOf img n 4 ∷ fieldOf img n 6 ∷ [])))
+    known = sum-low img n f (fieldOf img n 4 ∷ fieldOf img n 6 ∷ []) (omega (arith, two))
+
+    lower : (ltb (fieldOf img n 4) n && ltb (fieldOf img n 6) n) ≡ true
+    lower = sym (all-two (λ k. ltb k n) _ _) ∙ known .0
+
+    pub pair-open : openMark ≤ sum → At refusal.Nested n ≡ recordFault img n
+    unfolding named
+    pair-open h = rule-yes _ _ _ _ lower (rule-no _ _ _ _ (shut-two _ _ ∙ ap not (sum-open img n f (fieldOf img n 4 ∷ fieldOf img n 6 ∷ []) (omega arith) (known .0) (omega (arith, two, known .1))))) ∙ two-rules
+
+    pub pair-weigh : sum < openMark → rule (leb (1 + sum) 64) refusal.Weight n Fine ≡ recordFault img n
+    unfolding named weight
+    pair-weigh h =
+        let s = sum-shut img n f (fieldOf img n 4 ∷ fieldOf img n 6 ∷ []) (omega arith) (known .0) (omega (arith, two, known .1)) in
+        let w : sum ≡ weight (tree img (fieldOf img n 4)) + weight (tree img (fieldOf img n 6)) = omega (arith, two, known .1, s .1) in
+        rule-yes _ _ _ _ lower (rule-yes _ _ _ _ (shut-two _ _ ∙ ap not (s .0)) (ap (λ w. rule (leb (1 + w) 64) refusal.Weight n Fine) w)) ∙ two-rules

@@ -1,8 +1,8 @@
 -- What a record says: document 01, "The table image", the table of kinds. And what the lookups answer.
 -- Assumes nothing.
-use Prim.Native.Nat.{ℕ, _+_, _-_, _*_}
+use Prim.Native.Nat.{ℕ, _+_, _*_}
 use mathlib.Core.List.{List, [], _∷_}
-use mathlib.Core.Bool.{Bool, cond, not, _&&_}
+use mathlib.Core.Bool.{Bool, cond, _&&_}
 use lib.Dec.{eqb, ltb}
 use Rattle.image.specs.Words.{layersOf, rowsOf, columnsOf, recordsOf, entriesOf, cellOf, fieldOf, entryOf, entries}
 use Rattle.image.specs.declared.record.Action.{Action}
@@ -11,8 +11,6 @@ use Rattle.image.specs.declared.record.Cell.{Cell}
 use Rattle.image.specs.declared.record.Cell.the-variants as cell
 use Rattle.image.specs.declared.record.Entry.{Entry}
 use Rattle.image.specs.declared.record.Entry.the-variants as entry
-use Rattle.image.specs.declared.rules.Step.{Step}
-use Rattle.image.specs.declared.rules.Step.the-variants as step
 
 -- the action of a kind with the words a, b, c; a kind above 7 is none
 unfoldable pub actionOf : ℕ → ℕ → ℕ → ℕ → Action
@@ -65,17 +63,6 @@ listEnd (MultipleActions first count) = first + count
 listEnd (Layer number) = 0
 listEnd (DefaultLayer number) = 0
 listEnd (HoldTap timeout hold tap) = 0
-
--- a MultipleActions with an entry, by its words, and its last entry
-unfoldable pub hasEntry : List ℕ → ℕ → Bool
-hasEntry img n = eqb (fieldOf img n 0) 4 && not (eqb (fieldOf img n 4) 0)
-
-unfoldable pub lastEntry : List ℕ → ℕ → ℕ
-lastEntry img n = entryOf img (fieldOf img n 2 + fieldOf img n 4 - 1)
-
--- where the search for a HoldTap goes from record n
-unfoldable pub stepOf : List ℕ → ℕ → Step
-stepOf img n = cond (hasEntry img n) (step.Entry (lastEntry img n)) (step.End (eqb (fieldOf img n 0) 7))
 
 -- the record that a cell names, by layer, row and column
 abbrev pub cellPlace : List ℕ → ℕ → ℕ → ℕ → ℕ

@@ -46,17 +46,10 @@ pub record Formed (img : List ℕ) (n : ℕ) : Type 0 where
   pub form : formGood img n ≡ true
   pub before : (k : ℕ) → k < n → Good img k
 
--- what is known of it when the check comes to its open rule
-pub record Ready (img : List ℕ) (n : ℕ) : Type 0 where
-  pub formed : Formed img n
-  pub listed : listEnd (actionAt img n) ≤ entriesOf img
-  pub codes : every legal (codesIn img (actionAt img n)) ≡ true
-  pub lower : every (λ k. ltb k n) (childrenIn img (actionAt img n)) ≡ true
-
 -- so many words in a row from a byte offset on, inside the image, number records below n
 pub record Rowed (img : List ℕ) (n at count : ℕ) : Type 0 where
   pub inside : at + 2 * count ≤ length img
-  pub few : count < 65536
+  pub few : count ≤ 1024
   pub lower : every (λ k. ltb k n) (wordsFrom img at count) ≡ true
 
 pub record Sound (img : List ℕ) : Type 0 where

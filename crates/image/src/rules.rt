@@ -12,16 +12,17 @@ ghost use mathlib.Core.Path.{_≡_};
 ghost use Prim.Native.Nat.{ℕ, _+_, _*_, _<_, _≤_};
 ghost use mathlib.Core.Bool.{true, _&&_};
 ghost use lib.ListN.{length};
-ghost use lib.Dec.{leb, ltb};
+ghost use lib.Dec.{leb};
 ghost use Rattle.codes.specs.Codes.{legal};
-ghost use Rattle.image.specs.Words.{shapeOf, cellsOf, recordsOf, entriesOf, recordsAt, fieldOf, entries, wordsFrom};
-ghost use Rattle.image.specs.Record.{actionAt, stepOf};
-ghost use Rattle.image.specs.Tree.{tree, open?, shutButLast, settled, weight, weights, named};
+ghost use Rattle.image.specs.Words.{shapeOf, cellsOf, recordsOf, entriesOf, listAt, fieldOf, entries, wordsFrom};
+ghost use Rattle.image.specs.Record.{actionAt};
+ghost use Rattle.image.specs.Tree.{tree, named};
+ghost use Rattle.image.specs.Heft.{hefts, heftOf, Weighed};
 ghost use Rattle.lists.specs.Lists.{every};
 ghost use Rattle.image.specs.Check.{rule, within, countsGood, offsetsGood, headerGood, headFault, cellFault, form, recordFault, firstFault, bodyFault, faultOf, checkOf, toldOf};
-ghost use Rattle.image.specs.Sound.{Framed, Placed, Good, Formed, Ready, Rowed};
+ghost use Rattle.image.specs.Sound.{Framed, Placed, Good, Formed, Rowed};
 ghost use Rattle.refusal.specs.declared.Refusal.the-variants.{Code, Weight};
-ghost use Rattle.image.specs.declared.record.Action.the-variants.{MultipleKeyCodes, MultipleActions, HoldTap};
+ghost use Rattle.image.specs.declared.record.Action.the-variants.{MultipleKeyCodes, MultipleActions};
 ghost use Rattle.image.specs.declared.rules.Fault.the-variants.{Fine};
 
 // The header's numbers of an accepted image, or the first fault and its place.
@@ -54,18 +55,18 @@ impl Checked {
     }
 }
 
-// Where the search for a HoldTap goes from a record: on to its last entry, or it ends, at a HoldTap or at none.
-pub(crate) enum Step {
-    Entry(usize),
-    End(bool),
-}
-
-// What a record weighs by itself, and the words in a row that number the records it names: so many, from a byte offset.
+// What a record comes to by itself, and the words in a row that number the records it names: so many, from a byte offset.
 pub(crate) struct Row {
     pub own: usize,
     pub at: usize,
     pub count: usize,
 }
+
+// A record that is named comes to its weight, and to this mark more if it is open. 1,024 of them weigh less than the mark.
+const OPEN: usize = 1048576;
+
+// Where one of the records named is not lower, all come to this mark. No sum of lower ones comes to it.
+const HIGH: usize = 1099511627776;
 
 // No fault, or the first one and its place.
 pub(crate) enum Fault {
@@ -174,7 +175,7 @@ fn form_good(listed: usize, kind: u16, a: u16, b: u16, c: u16) -> bool
 
 // Every one of so many entries from `first` on is a legal code.
 fn codes_legal(image: &[u8], list_at: usize, first: usize, count: usize) -> bool
-    requires { ⌜ (first + count ≤ entriesOf (now image)) × Placed (now image) (recordsAt (now image)) «list_at» ⌝ }
+    requires { ⌜ (first + count ≤ entriesOf (now image)) × Framed (now image) × («list_at» ≡ listAt (now image)) ⌝ }
     ensures { λ r. ⌜ r ≡ every legal (entries (now (image .entry)) first count) ⌝ }
 {
     let mut at = first;
@@ -189,145 +190,38 @@ fn codes_legal(image: &[u8], list_at: usize, first: usize, count: usize) -> bool
     true
 }
 
-// Every one of so many entries from `first` on is below n.
-fn entries_lower(image: &[u8], list_at: usize, n: usize, first: usize, count: usize) -> bool
-    requires { ⌜ (first + count ≤ entriesOf (now image)) × Placed (now image) (recordsAt (now image)) «list_at» ⌝ }
-    ensures { λ r. ⌜ r ≡ every (λ k. ltb k n) (entries (now (image .entry)) first count) ⌝ }
-{
-    let mut at = first;
-    let mut left = count;
-    while 0 < left {
-        if n <= (entry(image, list_at, at) as usize) {
-            return false;
-        }
-        at += 1;
-        left -= 1;
-    }
-    true
-}
-
-// Where the search for a HoldTap goes from record n, each word that it takes read once.
-fn step_from(image: &[u8], records_at: usize, list_at: usize, n: usize) -> Step
-    requires { ⌜ Placed (now image) «records_at» «list_at» × Ready (now image) n ⌝ }
-    ensures { λ r. ⌜ r ≡ stepOf (now (image .entry)) n ⌝ }
-{
-    let kind = field(image, records_at, n, 0);
-    if kind != 4 {
-        return Step::End(kind == 7);
-    }
-    let count = field(image, records_at, n, 4) as usize;
-    if count == 0 {
-        return Step::End(false);
-    }
-    let first = field(image, records_at, n, 2) as usize;
-    Step::Entry(entry(image, list_at, first + count - 1) as usize)
-}
-
-// Whether record n is open, where it and every lower record keep the open rule: then only a last entry can be, and the
-// numbers fall from entry to entry.
-fn is_open(image: &[u8], records_at: usize, list_at: usize, n: usize) -> bool
-    requires { ⌜ Placed (now image) «records_at» «list_at» × Ready (now image) n × (settled (tree (now image) n) ≡ true) ⌝ }
-    ensures { λ r. ⌜ r ≡ open? (tree (now (image .entry)) n) ⌝ }
-{
-    let mut at = n;
-    loop {
-        match step_from(image, records_at, list_at, at) {
-            Step::Entry(e) => {
-                at = e;
-            }
-            Step::End(open) => {
-                return open;
-            }
-        }
-    }
-}
-
-// Of so many entries from `first` on, none is open but perhaps the last.
-fn shut_but_last(
-    image: &[u8],
-    records_at: usize,
-    list_at: usize,
-    n: usize,
-    first: usize,
-    count: usize,
-) -> bool
-    requires { ⌜ Placed (now image) «records_at» «list_at» × Formed (now image) n × (first + count ≤ entriesOf (now image)) × (every (λ k. ltb k n) (entries (now image) first count) ≡ true) ⌝ }
-    ensures { λ r. ⌜ r ≡ shutButLast (named (tree (now (image .entry))) (entries (now (image .entry)) first count)) ⌝ }
-{
-    let mut at = first;
-    let mut left = count;
-    while 1 < left {
-        let e = entry(image, list_at, at);
-        if is_open(image, records_at, list_at, e as usize) {
-            return false;
-        }
-        at += 1;
-        left -= 1;
-    }
-    true
-}
-
-// The row of record n, each word that it takes read once: a MultipleActions has its entries, and a HoldTap its own last
-// two words, hold and tap. Kinds 0 to 2 come first, since most records named are such.
+// The row of record n, which is good, each word that it takes read once. A MultipleActions has its entries, and a HoldTap
+// its own last two words, hold and tap. The word b of any other is 0 but in a MultipleKeyCodes, where it is the count.
 fn row_of(image: &[u8], records_at: usize, list_at: usize, n: usize) -> Row
-    requires { ⌜ Placed (now image) «records_at» «list_at» × Ready (now image) n ⌝ }
-    ensures { λ r. ⌜ Rowed (now (image .entry)) n (r .at) (r .count) × (r .own + weights (named (tree (now (image .entry))) (wordsFrom (now (image .entry)) (r .at) (r .count))) ≡ weight (tree (now (image .entry)) n)) ⌝ }
+    requires { ⌜ Placed (now image) «records_at» «list_at» × Formed (now image) n × Good (now image) n ⌝ }
+    ensures { λ r. ⌜ Weighed (now (image .entry)) n (r .own) (r .at) (r .count) ⌝ }
 {
     let kind = field(image, records_at, n, 0);
-    if kind <= 2 {
-        return Row {
-            own: 1,
-            at: 0,
-            count: 0,
-        };
-    }
+    let b = field(image, records_at, n, 4) as usize;
     if kind == 4 {
         let first = field(image, records_at, n, 2) as usize;
         return Row {
             own: 1,
             at: list_at + 2 * first,
-            count: field(image, records_at, n, 4) as usize,
+            count: b,
         };
     }
-    if kind == 7 {
+    if kind < 7 {
         return Row {
-            own: 1,
-            at: records_at + 8 * n + 4,
-            count: 2,
+            own: 1 + b,
+            at: 0,
+            count: 0,
         };
-    }
-    let mut own = 1;
-    if kind == 3 {
-        own += field(image, records_at, n, 4) as usize;
     }
     Row {
-        own,
-        at: 0,
-        count: 0,
+        own: 1 + OPEN,
+        at: records_at + 8 * n + 4,
+        count: 2,
     }
 }
 
-// The row of record n, which weighs at most 64, past each record that names one other: it weighs one more than that one,
-// and needs no call. The numbers fall.
-fn row_past(image: &[u8], records_at: usize, list_at: usize, n: usize) -> Row
-    requires { ⌜ Placed (now image) «records_at» «list_at» × Ready (now image) n × (weight (tree (now image) n) ≤ 64) ⌝ }
-    ensures { λ r. ⌜ Rowed (now (image .entry)) n (r .at) (r .count) × (r .own + weights (named (tree (now (image .entry))) (wordsFrom (now (image .entry)) (r .at) (r .count))) ≡ weight (tree (now (image .entry)) n)) ⌝ }
-{
-    let mut k = n;
-    let mut row = row_of(image, records_at, list_at, n);
-    while row.count == 1 {
-        k = word(image, row.at) as usize;
-        let next = row_of(image, records_at, list_at, k);
-        row = Row {
-            own: row.own + next.own,
-            at: next.at,
-            count: next.count,
-        };
-    }
-    row
-}
-
-// The weights of the records that a row names, all below n: recursion over them. A record that names none is no call.
+// What the records of a row come to, all below n and good: recursion over them. A record that names none is no call, nor
+// is the last of the row, whose own row takes the place of this one.
 fn weigh_row(
     image: &[u8],
     records_at: usize,
@@ -337,35 +231,60 @@ fn weigh_row(
     count: usize,
 ) -> usize
     requires { ⌜ Placed (now image) «records_at» «list_at» × Formed (now image) n × Rowed (now image) n at count ⌝ }
-    ensures { λ r. ⌜ (r ≡ weights (named (tree (now (image .entry))) (wordsFrom (now (image .entry)) at count))) × (r ≤ 64 * count) ⌝ }
+    ensures { λ r. ⌜ r ≡ hefts (named (tree (now (image .entry))) (wordsFrom (now (image .entry)) at count)) ⌝ }
 {
     let mut sum = 0;
     let mut from = at;
     let mut left = count;
     while 0 < left {
         let k = word(image, from) as usize;
-        let row = row_past(image, records_at, list_at, k);
-        let mut w = row.own;
-        if row.count != 0 {
-            w += weigh_row(image, records_at, list_at, k, row.at, row.count);
-        }
-        sum += w;
+        let row = row_of(image, records_at, list_at, k);
+        sum += row.own;
         from += 2;
         left -= 1;
+        if row.count == 0 {
+            continue;
+        }
+        if left == 0 {
+            from = row.at;
+            left = row.count;
+            continue;
+        }
+        sum += weigh_row(image, records_at, list_at, k, row.at, row.count);
     }
     sum
 }
 
-// The weight of record n, which is at most 64.
-fn weigh(image: &[u8], records_at: usize, list_at: usize, n: usize) -> usize
-    requires { ⌜ Placed (now image) «records_at» «list_at» × Ready (now image) n × (weight (tree (now image) n) ≤ 64) ⌝ }
-    ensures { λ r. ⌜ r ≡ weight (tree (now (image .entry)) n) ⌝ }
+// What the words of a row come to as records that record n names: the one pass over them.
+fn row_sum(
+    image: &[u8],
+    records_at: usize,
+    list_at: usize,
+    n: usize,
+    at: usize,
+    count: usize,
+) -> usize
+    requires { ⌜ Placed (now image) «records_at» «list_at» × Formed (now image) n × (at + 2 * count ≤ length (now image)) × (count ≤ 1024) ⌝ }
+    ensures { λ r. ⌜ r ≡ heftOf (now (image .entry)) n (wordsFrom (now (image .entry)) at count) ⌝ }
 {
-    let row = row_past(image, records_at, list_at, n);
-    if row.count == 0 {
-        return row.own;
+    let mut sum = 0;
+    let mut from = at;
+    let mut left = count;
+    while 0 < left {
+        let k = word(image, from) as usize;
+        if n <= k {
+            return HIGH;
+        }
+        let row = row_of(image, records_at, list_at, k);
+        sum += row.own;
+        from += 2;
+        left -= 1;
+        if row.count == 0 {
+            continue;
+        }
+        sum += weigh_row(image, records_at, list_at, k, row.at, row.count);
     }
-    row.own + weigh_row(image, records_at, list_at, n, row.at, row.count)
+    sum
 }
 
 // Weight, the last rule of a record.
@@ -390,7 +309,7 @@ fn code_fault(n: usize, code: u16) -> Fault
 
 // A MultipleKeyCodes: Code, Weight.
 fn codes_fault(image: &[u8], list_at: usize, n: usize, first: usize, count: usize) -> Fault
-    requires { ⌜ Placed (now image) (recordsAt (now image)) «list_at» × Formed (now image) n × (actionAt (now image) n ≡ MultipleKeyCodes first count) ⌝ }
+    requires { ⌜ Framed (now image) × («list_at» ≡ listAt (now image)) × Formed (now image) n × (actionAt (now image) n ≡ MultipleKeyCodes first count) ⌝ }
     ensures { λ r. ⌜ r ≡ recordFault (now (image .entry)) n ⌝ }
 {
     if !codes_legal(image, list_at, first, count) {
@@ -411,40 +330,37 @@ fn actions_fault(
     requires { ⌜ Placed (now image) «records_at» «list_at» × Formed (now image) n × (actionAt (now image) n ≡ MultipleActions first count) ⌝ }
     ensures { λ r. ⌜ r ≡ recordFault (now (image .entry)) n ⌝ }
 {
-    if !entries_lower(image, list_at, n, first, count) {
+    if count == 0 {
+        return Fault::Fine;
+    }
+    let at = list_at + 2 * first;
+    let most = row_sum(image, records_at, list_at, n, at, count - 1);
+    let last = row_sum(image, records_at, list_at, n, at + 2 * (count - 1), 1);
+    if HIGH <= most + last {
         return Fault::At(Refusal::Child, n);
     }
-    if !shut_but_last(image, records_at, list_at, n, first, count) {
+    if OPEN <= most {
         return Fault::At(Refusal::Nested, n);
     }
-    weight_fault(
-        n,
-        1 + weigh_row(image, records_at, list_at, n, list_at + 2 * first, count),
-    )
+    if OPEN <= last {
+        return weight_fault(n, 1 + (most + (last - OPEN)));
+    }
+    weight_fault(n, 1 + (most + last))
 }
 
 // A HoldTap: Child, Nested, Weight.
-fn hold_tap_fault(
-    image: &[u8],
-    records_at: usize,
-    list_at: usize,
-    n: usize,
-    hold: usize,
-    tap: usize,
-) -> Fault
-    requires { ⌜ Placed (now image) «records_at» «list_at» × Formed (now image) n × (actionAt (now image) n ≡ HoldTap (fieldOf (now image) n 2) hold tap) ⌝ }
+fn hold_tap_fault(image: &[u8], records_at: usize, list_at: usize, n: usize) -> Fault
+    requires { ⌜ Placed (now image) «records_at» «list_at» × Formed (now image) n × (fieldOf (now image) n 0 ≡ 7) ⌝ }
     ensures { λ r. ⌜ r ≡ recordFault (now (image .entry)) n ⌝ }
 {
-    if !both(hold < n, tap < n) {
+    let sum = row_sum(image, records_at, list_at, n, records_at + 8 * n + 4, 2);
+    if HIGH <= sum {
         return Fault::At(Refusal::Child, n);
     }
-    let held = is_open(image, records_at, list_at, hold);
-    let tapped = is_open(image, records_at, list_at, tap);
-    if !both(!held, !tapped) {
+    if OPEN <= sum {
         return Fault::At(Refusal::Nested, n);
     }
-    let weight = weigh(image, records_at, list_at, hold) + weigh(image, records_at, list_at, tap);
-    weight_fault(n, 1 + weight)
+    weight_fault(n, 1 + sum)
 }
 
 // The first fault of record n, where every lower record is good: its form, then the rules that its kind can break.
@@ -463,7 +379,7 @@ fn record_fault(image: &[u8], records_at: usize, list_at: usize, listed: usize, 
         2 => code_fault(n, a),
         3 => codes_fault(image, list_at, n, a as usize, b as usize),
         4 => actions_fault(image, records_at, list_at, n, a as usize, b as usize),
-        7 => hold_tap_fault(image, records_at, list_at, n, b as usize, c as usize),
+        7 => hold_tap_fault(image, records_at, list_at, n),
         _ => Fault::Fine,
     }
 }

@@ -4,7 +4,7 @@ ghost use mathlib.Core.Path.{_≡_};
 ghost use Prim.Native.Nat.{_+_, _*_, _<_, _≤_, _^_};
 ghost use lib.ListN.{getD, length};
 ghost use Rattle.image.specs.Words.{wordAt, shapeOf, recordsOf, entriesOf, recordsAt, listAt, fieldOf, entryOf};
-ghost use Rattle.image.specs.Sound.{Placed};
+ghost use Rattle.image.specs.Sound.{Framed};
 
 // The header's numbers but for the version.
 pub struct Shape {
@@ -62,7 +62,7 @@ pub(crate) fn shape_of(image: &[u8]) -> Shape
 
 // A word of record n: 0 its kind, 2 a, 4 b, 6 c.
 pub(crate) fn field(image: &[u8], records_at: usize, n: usize, at: usize) -> u16
-    requires { ⌜ ((at ≤ 6) × (n < recordsOf (now image))) × (Placed (now image) «records_at» (listAt (now image))) ⌝ }
+    requires { ⌜ (at ≤ 6) × (n < recordsOf (now image)) × Framed (now image) × («records_at» ≡ recordsAt (now image)) ⌝ }
     ensures { λ r. ⌜ r ≡ fieldOf (now (image .entry)) n at ⌝ }
 {
     word(image, records_at + 8 * n + at)
@@ -70,7 +70,7 @@ pub(crate) fn field(image: &[u8], records_at: usize, n: usize, at: usize) -> u16
 
 // Entry e of the list.
 pub(crate) fn entry(image: &[u8], list_at: usize, e: usize) -> u16
-    requires { ⌜ (e < entriesOf (now image)) × (Placed (now image) (recordsAt (now image)) «list_at») ⌝ }
+    requires { ⌜ (e < entriesOf (now image)) × Framed (now image) × («list_at» ≡ listAt (now image)) ⌝ }
     ensures { λ r. ⌜ r ≡ entryOf (now (image .entry)) e ⌝ }
 {
     word(image, list_at + 2 * e)

@@ -1,83 +1,100 @@
--- `image::rules::actions_fault` meets its contract: the rules that a MultipleActions can break. Assumes nothing.
-use Prim.Native.Nat.{_*_, _+_, _≤_}
-use Rattle.image.proofs.Faults.{rule-no, rule-yes}
-use Rattle.image.proofs.Trees.{entries-row, list-placed, rowed}
-use Rattle.image.proofs.Records.{actions-rules, listed-inside}
-use Rattle.image.specs.Check.{rule}
+-- `image::rules::actions_fault` meets its contract: by what the entries but the last, and the last, come to. Assumes nothing.
+use Prim.Native.Nat.{_+_, _<_, _≤_}
+use Rattle.image.proofs.Records.{empty-rules, listed-inside, sums-high, sums-open, sums-small, sums-weigh, sums-weigh-open}
+use Rattle.image.specs.Heft.{highMark}
 use Rattle.image.specs.Record.{listEnd}
-use Rattle.image.specs.Sound.{Rowed}
-use Rattle.image.specs.Tree.{named, tree, weights}
-use Rattle.image.specs.Words.{entries, entriesOf}
-use Rattle.lists.specs.Lists.{every}
+use Rattle.image.specs.Words.{entriesOf}
 use borrow.Author.Needs.{needs}
-use borrow.Author.Tests.{not-false, not-true}
 use denote.Ref.{now}
-use lib.Dec.{leb, ltb}
-use mathlib.Core.Bool.{true}
-use mathlib.Core.Path.{_∙_, _≡_, ap, subst, sym}
+use mathlib.Core.Path.{_∙_, subst}
 use native.Mathlib.Omega.{arith}
-use Rattle.refusal.specs.declared.Refusal.the-variants.{Weight}
-use Rattle.image.specs.declared.rules.Fault.the-variants.{Fine}
 use Rattle.image.proofs.rules.actions_fault.Statement.{statement}
 use Rattle.image.proofs.rules.actions_fault.Tie as tie
 
--- where each test began
-abbrev at-lower : tie.After-entries-lower → tie.Start
-at-lower c = c .before .before
+-- where it began, and where both sums are known
+abbrev start : tie.Else1 → tie.Start
+start c = c .before .before
 
-abbrev at-shut : tie.After-shut-but-last → tie.Start
-at-shut c = at-lower (c .before .before)
+abbrev begun : tie.After-row-sum2 → tie.Else1
+begun c = c .before .before
 
 listed : (s : tie.Start) → s .args .first + s .args .count ≤ entriesOf (now (s .args .image))
 unfolding listEnd
 listed s = subst (λ x. listEnd x ≤ entriesOf (now (s .args .image))) (s .pre .2) (listed-inside _ _ (s .pre .1 .inside) (s .pre .1 .form))
 
-lower : (c : tie.Else1) → every (λ k. ltb k (at-lower (c .before) .args .n)) (entries (now (at-lower (c .before) .args .image)) (at-lower (c .before) .args .first) (at-lower (c .before) .args .count)) ≡ true
-lower c = sym (c .before .entries-lower .ensures) ∙ not-false _ (c .if1 .left)
+some : (c : tie.Else1) → 0 < start c .args .count
+some c = omega (arith, c .if1 .left)
 
-row : (c : tie.Else2) → Rowed (now (at-shut (c .before) .args .image)) (at-shut (c .before) .args .n) (at-shut (c .before) .args .list-at + 2 * at-shut (c .before) .args .first) (at-shut (c .before) .args .count)
-row c = let s = at-shut (c .before) in rowed _ _ _ _ _ _ (s .pre .0) (listed s) (lower (c .before .before))
-
-entries-lower-requires : tie.Need-entries-lower-requires
-entries-lower-requires c κs = (listed (c .before), list-placed _ _ _ (c .before .pre .0))
+small : (c : tie.After-row-sum2) → (c .before .row-sum .result ≤ highMark) × (c .row-sum2 .result ≤ highMark)
+small c =
+    let s = start (begun c) in
+    sums-small _ _ _ _ _ _ (s .pre .0) (s .pre .1) (s .pre .2) (some (begun c)) (c .before .row-sum .ensures) (c .row-sum2 .ensures)
 
 returns : tie.Need-returns
-returns c =
-    let s = at-lower (c .before) in
-    rule-no _ _ _ _ (sym (c .before .entries-lower .ensures) ∙ not-true _ (c .if1 .taken)) ∙ actions-rules _ _ (s .pre .1) _ _ (s .pre .2)
+returns c = let s = c .before .before in empty-rules _ _ (s .pre .1) _ _ (s .pre .2) (c .if1 .taken)
 
-shut-but-last-requires : tie.Need-shut-but-last-requires
-shut-but-last-requires c κs =
-    let s = at-lower (c .before) in
-    (s .pre .0, s .pre .1, listed s, lower c)
+mul-at : tie.Need-mul-at
+mul-at c = omega (arith, listed (start c), start c .pre .0 .framed .entries)
+
+add-at : tie.Need-add-at
+add-at c = omega (arith, listed (start c), start c .pre .0 .second, start c .pre .0 .framed .whole)
+
+row-sum-requires : tie.Need-row-sum-requires
+row-sum-requires c κs =
+    let p = start c .pre in
+    (p .0, p .1, omega (arith, some c, listed (start c), p .0 .second, p .0 .framed .whole), omega (arith, listed (start c), p .0 .framed .entries))
+
+mul-row-sum : tie.Need-mul-row-sum
+mul-row-sum c = omega (arith, listed (start (c .before)), start (c .before) .pre .0 .framed .entries)
+
+add-row-sum : tie.Need-add-row-sum
+add-row-sum c = omega (arith, listed (start (c .before)), start (c .before) .pre .0 .second, start (c .before) .pre .0 .framed .whole)
+
+row-sum-requires-2 : tie.Need-row-sum-requires-2
+row-sum-requires-2 c κs =
+    let p = start (c .before) .pre in
+    (p .0, p .1, omega (arith, some (c .before), listed (start (c .before)), p .0 .second, p .0 .framed .whole), omega arith)
+
+add-if2 : tie.Need-add-if2
+add-if2 c = omega (arith, small c)
 
 returns-2 : tie.Need-returns-2
 returns-2 c =
-    let s = at-shut (c .before) in
-    rule-yes _ _ _ _ (lower (c .before .before)) (rule-no _ _ _ _ (sym (c .before .shut-but-last .ensures) ∙ not-true _ (c .if2 .taken))) ∙ actions-rules _ _ (s .pre .1) _ _ (s .pre .2)
-
-mul-weigh-row : tie.Need-mul-weigh-row
-mul-weigh-row c = omega (arith, listed (at-shut (c .before)), at-shut (c .before) .pre .0 .framed .entries)
-
-add-weigh-row : tie.Need-add-weigh-row
-add-weigh-row c = omega (arith, row c .inside)
-
-weigh-row-requires : tie.Need-weigh-row-requires
-weigh-row-requires c κs =
-    let s = at-shut (c .before) in
-    (s .pre .0, s .pre .1, row c)
-
-add-weight-fault : tie.Need-add-weight-fault
-add-weight-fault c = omega (arith, c .weigh-row .ensures .1, row (c .before) .few)
+    let d = c .before in
+    let s = start (begun d) in
+    sums-high _ _ _ _ _ _ (s .pre .0) (s .pre .1) (s .pre .2) (some (begun d)) (d .before .row-sum .ensures) (d .row-sum2 .ensures) (c .if2 .taken)
 
 returns-3 : tie.Need-returns-3
 returns-3 c =
-    let s = at-shut (c .before .before .before) in
-    let img = now (s .args .image) in
-    let weighs = c .before .weigh-row .ensures .0 ∙ ap (λ ks. weights (named (tree img) ks)) (sym (entries-row img _ _ _ _ (s .pre .0))) in
-    rule-yes _ _ _ _ (lower (c .before .before .before .before))
-    (rule-yes _ _ _ _ (sym (c .before .before .before .shut-but-last .ensures) ∙ not-false _ (c .before .before .if2 .left))
-    (c .weight-fault .ensures ∙ ap (λ w. rule (leb (1 + w) 64) Weight (s .args .n) Fine) weighs)) ∙ actions-rules _ _ (s .pre .1) _ _ (s .pre .2)
+    let d = c .before .before in
+    let s = start (begun d) in
+    sums-open _ _ _ _ _ _ (s .pre .0) (s .pre .1) (s .pre .2) (some (begun d)) (d .before .row-sum .ensures) (d .row-sum2 .ensures) (c .before .if2 .left) (c .if3 .taken)
+
+add-weight-fault : tie.Need-add-weight-fault
+add-weight-fault c = omega (arith, small (c .before .before .before))
+
+add-weight-fault-2 : tie.Need-add-weight-fault-2
+add-weight-fault-2 c = omega (arith, small (c .before .before .before))
+
+returns-4 : tie.Need-returns-4
+returns-4 c =
+    let low = c .before .before .before in
+    let d = low .before in
+    let s = start (begun d) in
+    c .weight-fault .ensures ∙ sums-weigh-open _ _ _ _ _ _ (s .pre .0) (s .pre .1) (s .pre .2) (some (begun d)) (d .before .row-sum .ensures) (d .row-sum2 .ensures) (low .if2 .left) (c .before .before .if3 .left) (c .before .if4 .taken)
+
+add-weight-fault-3 : tie.Need-add-weight-fault-3
+add-weight-fault-3 c = omega (arith, small (c .before .before .before))
+
+add-weight-fault-4 : tie.Need-add-weight-fault-4
+add-weight-fault-4 c = omega (arith, small (c .before .before .before))
+
+returns-5 : tie.Need-returns-5
+returns-5 c =
+    let low = c .before .before .before in
+    let d = low .before in
+    let s = start (begun d) in
+    c .weight-fault2 .ensures ∙ sums-weigh _ _ _ _ _ _ (s .pre .0) (s .pre .1) (s .pre .2) (some (begun d)) (d .before .row-sum .ensures) (d .row-sum2 .ensures) (low .if2 .left) (c .before .before .if3 .left) (c .before .if4 .left)
 
 pub actions-fault-spec : {M : Type 1} → statement M
-actions-fault-spec = tie.close (tie.spec entries-lower-requires returns shut-but-last-requires returns-2 mul-weigh-row add-weigh-row weigh-row-requires add-weight-fault (λ c κs. search needs) returns-3)
+actions-fault-spec = tie.close (tie.spec returns mul-at add-at (λ c. omega (arith, some c)) row-sum-requires (λ c. omega (arith, some (c .before))) mul-row-sum add-row-sum row-sum-requires-2 add-if2 returns-2 returns-3 add-weight-fault add-weight-fault-2 (λ c κs. search needs) returns-4 add-weight-fault-3 add-weight-fault-4 (λ c κs. search needs) returns-5)

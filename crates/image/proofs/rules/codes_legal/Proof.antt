@@ -30,7 +30,7 @@ tested : (c : tie.After-is-legal Inv-loop μ-loop) (b : Bool) → c .is-legal .r
 tested c b e = ap legal (sym (c .before .entry .ensures)) ∙ sym (c .is-legal .ensures) ∙ e
 
 entry-requires : tie.Need-entry-requires Inv-loop μ-loop
-entry-requires c κs = (omega arith, start c .pre .1)
+entry-requires c κs = (omega arith, start c .pre .1, start c .pre .2)
 
 returns : tie.Need-returns Inv-loop μ-loop
 returns c =

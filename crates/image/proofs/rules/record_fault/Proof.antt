@@ -1,5 +1,4 @@
 -- `image::rules::record_fault` meets its contract: the form, then the rules of the kind. Assumes nothing.
-use Rattle.image.proofs.Trees.{list-placed}
 use Rattle.image.proofs.Records.{action-read, code-rules, form-bad, form-read, no-rules}
 use Rattle.image.specs.Check.{formGood}
 use Rattle.image.specs.Record.{actionAt, actionOf}
@@ -36,7 +35,7 @@ codes-fault-requires : tie.Need-codes-fault-requires
 unfolding actionOf
 codes-fault-requires c κs =
     let w = c .before .before .before in
-    (list-placed _ _ _ (at-words w .pre .0), kept (c .before), read w ∙ rw (c .match .keys2))
+    (at-words w .pre .0 .framed, at-words w .pre .0 .second, kept (c .before), read w ∙ rw (c .match .keys2))
 
 actions-fault-requires : tie.Need-actions-fault-requires
 unfolding actionOf
@@ -45,10 +44,9 @@ actions-fault-requires c κs =
     (at-words w .pre .0, kept (c .before), read w ∙ rw (c .match .keys3))
 
 hold-tap-fault-requires : tie.Need-hold-tap-fault-requires
-unfolding actionOf
 hold-tap-fault-requires c κs =
     let w = c .before .before .before in
-    (at-words w .pre .0, kept (c .before), read w ∙ rw (c .match .keys4, w .before .before .field2 .ensures))
+    (at-words w .pre .0, kept (c .before), sym (w .before .before .before .field .ensures) ∙ c .match .keys4)
 
 returns-2 : tie.Need-returns-2
 unfolding actionOf
@@ -61,4 +59,4 @@ returns-6 c =
     no-rules _ _ (kept (c .before)) (λ e. other .0 .0 .0 .1 (same ∙ e)) (λ e. other .0 .0 .1 (same ∙ e)) (λ e. other .0 .1 (same ∙ e)) (λ e. other .1 (same ∙ e))
 
 pub record-fault-spec : {M : Type 1} → statement M
-record-fault-spec = tie.close (tie.spec (λ c κs. search needs) (λ c κs. search needs) (λ c κs. search needs) (λ c κs. search needs) (λ c κs. search needs) returns (λ c κs. search needs) (λ c. search needs) (λ c. search needs) codes-fault-requires (λ c. search needs) (λ c. search needs) actions-fault-requires (λ c. search needs) (λ c. search needs) hold-tap-fault-requires returns-2 (λ c. search needs) (λ c. search needs) (λ c. search needs) returns-6)
+record-fault-spec = tie.close (tie.spec (λ c κs. search needs) (λ c κs. search needs) (λ c κs. search needs) (λ c κs. search needs) (λ c κs. search needs) returns (λ c κs. search needs) (λ c. search needs) (λ c. search needs) codes-fault-requires (λ c. search needs) (λ c. search needs) actions-fault-requires hold-tap-fault-requires returns-2 (λ c. search needs) (λ c. search needs) (λ c. search needs) returns-6)

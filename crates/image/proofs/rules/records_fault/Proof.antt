@@ -6,7 +6,6 @@ use Rattle.image.specs.Check.{firstFault, recordFault}
 use Rattle.image.specs.Sound.{Good}
 use borrow.Author.Count.{below-more}
 use borrow.Author.Needs.{needs}
-use denote.Ref.{now}
 use mathlib.Core.Path.{_∙_, _≡_, sym}
 use native.Mathlib.Nat.{not-suc-le-zero, sub-zero}
 use native.Mathlib.Omega.{arith}

@@ -6,7 +6,7 @@ use Rattle.image.proofs.words.entry.Tie as tie
 
 returns : tie.Need-returns
 unfolding entryOf
-returns c = rw (← c .before .before .pre .1 .second) (c .word .ensures)
+returns c = rw (← c .before .before .pre .2) (c .word .ensures)
 
 pub entry-spec : {M : Type 1} → statement M
 entry-spec = tie.close (tie.spec (λ c. search needs) (λ c. search needs) (λ c κs. search needs) returns)

@@ -6,7 +6,7 @@ use Rattle.image.proofs.words.field.Tie as tie
 
 returns : tie.Need-returns
 unfolding fieldOf
-returns c = rw (← c .before .before .pre .1 .first) (c .word .ensures)
+returns c = rw (← c .before .before .pre .3) (c .word .ensures)
 
 pub field-spec : {M : Type 1} → statement M
 field-spec = tie.close (tie.spec (λ c. search needs) (λ c. search needs) (λ c. search needs) (λ c κs. search needs) returns)
