@@ -16,7 +16,7 @@ use Rattle.image.specs.Words.{recordsAt, fieldOf, entries, wordsFrom}
 use Rattle.image.specs.Record.{actionOf, childrenIn, listEnd}
 use Rattle.image.specs.Tree.{Action, Actions, MultipleActions, HoldTap, end, _&_, named, meaning, tree, open?, someOpen, shutButLast, settled, weight, weights}
 use Rattle.image.specs.Check.{form, formGood}
-use Rattle.image.specs.Heft.{openMark, highMark, heft, hefts, heftOf, Weighed}
+use Rattle.image.specs.Heft.{openMark, highMark, heft, hefts, rowHeft, heftOf, Weighed}
 use Rattle.image.specs.Sound.{Placed, Good, Formed, Rowed, Meant}
 use Rattle.image.specs.declared.record.Action.the-variants as code
 use Rattle.image.proofs.Faults.{and-true, and-false, and-assoc, or-false, not-or}
@@ -261,7 +261,7 @@ module _ (img : List ℕ) (r l n : ℕ) (p : Placed img r l) (f : Formed img n) 
       }
 
 -- a row of good records comes to little, and its words after the first are one too
-pub row-few : (img : List ℕ) (n at count : ℕ) → Formed img n → Rowed img n at count → hefts (named (tree img) (wordsFrom img at count)) ≤ 1073807360
+pub row-few : (img : List ℕ) (n at count : ℕ) → Formed img n → Rowed img n at count → rowHeft img at count ≤ 1073807360
 row-few img n at count f r = omega (arith, few-hefts img n f (wordsFrom img at count) (r .lower), length-words img at count, r .few)
 
 pub rowed-tail : (img : List ℕ) (n at count : ℕ) → 0 < count → Rowed img n at count → Rowed img n (at + 2) (count - 1)

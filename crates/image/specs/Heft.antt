@@ -26,12 +26,16 @@ unfoldable pub hefts : Actions → ℕ
 hefts end = 0
 hefts (action & actions) = heft action + hefts actions
 
+-- what the records of a row come to: so many words from a byte offset on
+abbrev pub rowHeft : List ℕ → ℕ → ℕ → ℕ
+rowHeft img at count = hefts (named (tree img) (wordsFrom img at count))
+
 -- what the records that record n names come to
 unfoldable pub heftOf : List ℕ → ℕ → List ℕ → ℕ
 heftOf img n ks = cond (every (λ k. ltb k n) ks) (hefts (named (tree img) ks)) highMark
 
--- record n comes to its own part and the records of its row: so many words from a byte offset on
+-- record n comes to its own part and its row
 pub record Weighed (img : List ℕ) (n own at count : ℕ) : Type 0 where
   pub row : Rowed img n at count
   pub some : 0 < own
-  pub sum : own + hefts (named (tree img) (wordsFrom img at count)) ≡ heft (tree img n)
+  pub sum : own + rowHeft img at count ≡ heft (tree img n)

@@ -16,8 +16,7 @@ ghost use lib.Dec.{leb};
 ghost use Rattle.codes.specs.Codes.{legal};
 ghost use Rattle.image.specs.Words.{shapeOf, cellsOf, recordsOf, entriesOf, listAt, fieldOf, entries, wordsFrom};
 ghost use Rattle.image.specs.Record.{actionAt};
-ghost use Rattle.image.specs.Tree.{tree, named};
-ghost use Rattle.image.specs.Heft.{hefts, heftOf, Weighed};
+ghost use Rattle.image.specs.Heft.{rowHeft, heftOf, Weighed};
 ghost use Rattle.lists.specs.Lists.{every};
 ghost use Rattle.image.specs.Check.{rule, within, countsGood, offsetsGood, headerGood, headFault, cellFault, form, recordFault, firstFault, bodyFault, faultOf, checkOf, toldOf};
 ghost use Rattle.image.specs.Sound.{Framed, Placed, Good, Formed, Rowed};
@@ -231,7 +230,7 @@ fn weigh_row(
     count: usize,
 ) -> usize
     requires { ⌜ Placed (now image) «records_at» «list_at» × Formed (now image) n × Rowed (now image) n at count ⌝ }
-    ensures { λ r. ⌜ r ≡ hefts (named (tree (now (image .entry))) (wordsFrom (now (image .entry)) at count)) ⌝ }
+    ensures { λ r. ⌜ r ≡ rowHeft (now (image .entry)) at count ⌝ }
 {
     let mut sum = 0;
     let mut from = at;

@@ -3,14 +3,14 @@ use Prim.Native.Nat.{_+_, _-_, _<_, _≤_, ℕ}
 use Rattle.image.proofs.Entries.{row-head, row-none, row-on, rowed-still}
 use Rattle.image.proofs.Trees.{formed-lower}
 use Rattle.image.proofs.Hefts.{row-few, rowed-tail}
-use Rattle.image.specs.Heft.{heft, hefts}
+use Rattle.image.specs.Heft.{heft, rowHeft}
 use Rattle.image.specs.Sound.{Rowed}
-use Rattle.image.specs.Tree.{named, tree}
-use Rattle.image.specs.Words.{wordsFrom}
+use Rattle.image.specs.Tree.{tree}
 use borrow.Author.Needs.{needs}
 use borrow.Author.Tests.{ltb-true}
 use denote.Ref.{now}
 use lib.Dec.{ltb}
+use mathlib.Core.List.{List}
 use mathlib.Core.Path.{_≡_, ap}
 use native.Mathlib.Omega.{arith}
 use borrow.Fn.Kinds.{In}
@@ -33,10 +33,10 @@ abbrev weigh-row-below : ℕ → In 1 weigh-row-kinds.ps
 weigh-row-below t = and 1 weigh-row-kinds.ps (falls 1 weigh-row-kinds.ps _<_ μ-weigh-row t) weigh-row.Pre
 
 abbrev weigh-row-Inv-loop : weigh-row-lts.InvT-loop
-weigh-row-Inv-loop image records-at list-at n at count sum₀ from₀ left₀ sum from left = Rowed image n from left × (sum + hefts (named (tree image) (wordsFrom image from left)) ≡ hefts (named (tree image) (wordsFrom image at count)))
+weigh-row-Inv-loop image records-at list-at n at count sum₀ from₀ left₀ sum from left = Rowed image n from left × (sum + rowHeft image from left ≡ rowHeft image at count)
 
 abbrev weigh-row-μ-loop : weigh-row-lts.MeasureT-loop
-weigh-row-μ-loop image records-at list-at n at count sum₀ from₀ left₀ sum from left = hefts (named (tree image) (wordsFrom image from left))
+weigh-row-μ-loop image records-at list-at n at count sum₀ from₀ left₀ sum from left = rowHeft image from left
 
 -- what the functions called promise
 abbrev claims : ℕ → weigh-row-lts.Claims
@@ -55,18 +55,31 @@ Start t = weigh-row-lts.Start (claims t) (weigh-row-at t) weigh-row.Post weigh-r
 abbrev start : (t : ℕ) → Read t → Start t
 start t c = c .before .before .before .before
 
+abbrev image : (t : ℕ) → Read t → List ℕ
+image t c = now (start t c .args .image)
+
 -- the record that a word of the row numbers is lower
 low : (t : ℕ) (c : Read t) → c .word .result < start t c .args .n
 low t c =
     let n = start t c .args .n in
     let l = c .before .before .loop in
-    omega (arith, ltb-true _ n (row-head (now (start t c .args .image)) (l .from) (l .left) (λ k. ltb k n) (c .before .loop-test .taken) (l .inv .0 .lower)), c .word .ensures)
+    omega (arith, ltb-true _ n (row-head (image t c) (l .from) (l .left) (λ k. ltb k n) (c .before .loop-test .taken) (l .inv .0 .lower)), c .word .ensures)
 
--- the sum, what the record comes to, and what is left after it come to what the row does, which is little
-grows : (t : ℕ) (c : Known t) → (c .before .before .before .loop .sum + (c .row-of .result .own + hefts (named (tree (now (start t (c .before) .args .image))) (wordsFrom (now (start t (c .before) .args .image)) (c .row-of .result .at) (c .row-of .result .count)))) + hefts (named (tree (now (start t (c .before) .args .image))) (wordsFrom (now (start t (c .before) .args .image)) (c .before .before .before .loop .from + 2) (c .before .before .before .loop .left - 1))) ≡ hefts (named (tree (now (start t (c .before) .args .image))) (wordsFrom (now (start t (c .before) .args .image)) (start t (c .before) .args .at) (start t (c .before) .args .count)))) × (hefts (named (tree (now (start t (c .before) .args .image))) (wordsFrom (now (start t (c .before) .args .image)) (start t (c .before) .args .at) (start t (c .before) .args .count))) ≤ 1073807360)
+-- what that record comes to, what is left of the row after it, and the row whole
+abbrev next : (t : ℕ) → Known t → ℕ
+next t c = c .row-of .result .own + rowHeft (image t (c .before)) (c .row-of .result .at) (c .row-of .result .count)
+
+abbrev rest : (t : ℕ) → Known t → ℕ
+rest t c = let l = c .before .before .before .loop in rowHeft (image t (c .before)) (l .from + 2) (l .left - 1)
+
+abbrev whole : (t : ℕ) → Known t → ℕ
+whole t c = let a = start t (c .before) .args in rowHeft (image t (c .before)) (a .at) (a .count)
+
+-- the sum grows by it towards the whole, which is little
+grows : (t : ℕ) (c : Known t) → (c .before .before .before .loop .sum + next t c + rest t c ≡ whole t c) × (whole t c ≤ 1073807360)
 grows t c =
     let s = start t (c .before) in
-    let img = now (s .args .image) in
+    let img = image t (c .before) in
     let l = c .before .before .before .loop in
     (omega (arith, l .inv .1, c .row-of .ensures .sum, ap (λ k. heft (tree img k)) (c .before .word .ensures), row-on img (l .from) (l .left) (tree img) (c .before .before .loop-test .taken)), row-few img (s .args .n) (s .args .at) (s .args .count) (s .pre .1 .1) (s .pre .1 .2))
 
@@ -101,7 +114,7 @@ weigh-row-loop-less t c =
 weigh-row-loop-again : (t : ℕ) → weigh-row-lts.Need-loop-again (claims t) (weigh-row-at t) weigh-row.Post weigh-row-Inv-loop weigh-row-μ-loop
 weigh-row-loop-again t c =
     let k = c .before .before .before in
-    let img = now (start t (k .before) .args .image) in
+    let img = image t (k .before) in
     let r = k .row-of .result in
     (rowed-tail _ _ _ _ (k .before .before .loop-test .taken) (k .before .before .before .loop .inv .0), omega (arith, grows t k .0, row-none img (r .at) (r .count) (tree img) (omega (arith, c .if1 .taken))))
 
@@ -114,7 +127,7 @@ weigh-row-loop-less-2 t c =
 weigh-row-loop-again-2 : (t : ℕ) → weigh-row-lts.Need-loop-again-2 (claims t) (weigh-row-at t) weigh-row.Post weigh-row-Inv-loop weigh-row-μ-loop
 weigh-row-loop-again-2 t c =
     let k = c .before .before .before .before in
-    let img = now (start t (k .before) .args .image) in
+    let img = image t (k .before) in
     let l = k .before .before .before .loop in
     (rowed-still _ (k .before .word .result) _ _ _ (omega (arith, low t (k .before))) (k .row-of .ensures .row), omega (arith, grows t k .0, row-none img (l .from + 2) (l .left - 1) (tree img) (omega (arith, c .if2 .taken))))
 

@@ -1,10 +1,10 @@
 -- `image::rules::row_sum` meets its contract. The invariant: the words passed are lower, and the sum and what is left come to what the row does. Assumes nothing.
-use Prim.Native.Nat.{_*_, _+_, _-_, _≤_}
+use Prim.Native.Nat.{ℕ, _*_, _+_, _-_, _≤_}
 use Rattle.image.proofs.Entries.{below-no, below-none, below-on, row-none, row-on}
 use Rattle.image.proofs.Trees.{formed-lower}
 use Rattle.image.proofs.Hefts.{heft-high, heft-low, light-heft}
-use Rattle.image.specs.Heft.{heft, hefts}
-use Rattle.image.specs.Tree.{named, tree}
+use Rattle.image.specs.Heft.{heft, rowHeft}
+use Rattle.image.specs.Tree.{tree}
 use Rattle.image.specs.Words.{wordAt, wordsFrom}
 use Rattle.lists.specs.Lists.{every}
 use borrow.Author.Needs.{needs}
@@ -12,6 +12,7 @@ use borrow.Author.Tests.{le-ltb, lt-ltb}
 use denote.Ref.{now}
 use lib.Dec.{ltb}
 use lib.ListN.{length}
+use mathlib.Core.List.{List}
 use mathlib.Core.Path.{_∙_, _≡_, ap, refl}
 use native.Mathlib.Omega.{arith}
 use Rattle.image.proofs.rules.row_sum.Statement.{statement}
@@ -22,7 +23,7 @@ Inv-loop image records-at list-at n at count sum₀ from₀ left₀ sum from lef
     (from + 2 * left ≤ length image)
     × (sum + 1048640 * left ≤ 1048640 * count)
     × (every (λ k. ltb k n) (wordsFrom image at count) ≡ every (λ k. ltb k n) (wordsFrom image from left))
-    × (sum + hefts (named (tree image) (wordsFrom image from left)) ≡ hefts (named (tree image) (wordsFrom image at count)))
+    × (sum + rowHeft image from left ≡ rowHeft image at count)
 
 abbrev μ-loop : tie.MeasureT-loop
 μ-loop image records-at list-at n at count sum₀ from₀ left₀ sum from left = left
@@ -30,21 +31,38 @@ abbrev μ-loop : tie.MeasureT-loop
 abbrev start : tie.In-loop Inv-loop μ-loop → tie.Start Inv-loop μ-loop
 start c = c .before .before .before
 
--- what the record that the word numbers comes to: at most so much, and the sum with it and what is left is the whole
-grows : (c : tie.After-row-of Inv-loop μ-loop) → (c .row-of .result .own + hefts (named (tree (now (start (c .before .before .before) .args .image))) (wordsFrom (now (start (c .before .before .before) .args .image)) (c .row-of .result .at) (c .row-of .result .count))) ≤ 1048640) × (c .before .before .before .before .loop .sum + (c .row-of .result .own + hefts (named (tree (now (start (c .before .before .before) .args .image))) (wordsFrom (now (start (c .before .before .before) .args .image)) (c .row-of .result .at) (c .row-of .result .count)))) + hefts (named (tree (now (start (c .before .before .before) .args .image))) (wordsFrom (now (start (c .before .before .before) .args .image)) (c .before .before .before .before .loop .from + 2) (c .before .before .before .before .loop .left - 1))) ≡ hefts (named (tree (now (start (c .before .before .before) .args .image))) (wordsFrom (now (start (c .before .before .before) .args .image)) (start (c .before .before .before) .args .at) (start (c .before .before .before) .args .count))))
+abbrev image : tie.In-loop Inv-loop μ-loop → List ℕ
+image c = now (start c .args .image)
+
+-- where a record is known, the stage at which its word was read
+abbrev reading : tie.After-row-of Inv-loop μ-loop → tie.In-loop Inv-loop μ-loop
+reading c = c .before .before .before
+
+-- what that record comes to, what is left of the row after it, and the row whole
+abbrev next : tie.After-row-of Inv-loop μ-loop → ℕ
+next c = c .row-of .result .own + rowHeft (image (reading c)) (c .row-of .result .at) (c .row-of .result .count)
+
+abbrev rest : tie.After-row-of Inv-loop μ-loop → ℕ
+rest c = let l = reading c .before .loop in rowHeft (image (reading c)) (l .from + 2) (l .left - 1)
+
+abbrev whole : tie.After-row-of Inv-loop μ-loop → ℕ
+whole c = let a = start (reading c) .args in rowHeft (image (reading c)) (a .at) (a .count)
+
+-- the record comes to little, and the sum grows by it towards the whole
+grows : (c : tie.After-row-of Inv-loop μ-loop) → (next c ≤ 1048640) × (reading c .before .loop .sum + next c + rest c ≡ whole c)
 grows c =
-    let i = c .before .before .before in
-    let img = now (start i .args .image) in
+    let i = reading c in
+    let img = image i in
     let l = i .before .loop in
     let k = c .before .before .word .result in
     (omega (arith, c .row-of .ensures .sum, light-heft (tree img k) (start i .pre .1 .before k (c .before .if1 .left) .light)), omega (arith, l .inv .3, c .row-of .ensures .sum, ap (λ k. heft (tree img k)) (c .before .before .word .ensures), row-on img (l .from) (l .left) (tree img) (i .loop-test .taken)))
 
 -- and the test of the words passed goes on
-tested : (c : tie.Else1 Inv-loop μ-loop) → every (λ k. ltb k (start (c .before .before) .args .n)) (wordsFrom (now (start (c .before .before) .args .image)) (start (c .before .before) .args .at) (start (c .before .before) .args .count)) ≡ every (λ k. ltb k (start (c .before .before) .args .n)) (wordsFrom (now (start (c .before .before) .args .image)) (c .before .before .before .loop .from + 2) (c .before .before .before .loop .left - 1))
+tested : (c : tie.Else1 Inv-loop μ-loop) → let i = c .before .before in let n = start i .args .n in let l = i .before .loop in every (λ k. ltb k n) (wordsFrom (image i) (start i .args .at) (start i .args .count)) ≡ every (λ k. ltb k n) (wordsFrom (image i) (l .from + 2) (l .left - 1))
 tested c =
     let i = c .before .before in
     let n = start i .args .n in
-    i .before .loop .inv .2 ∙ below-on _ _ _ (λ k. ltb k n) (i .loop-test .taken) (lt-ltb (wordAt (now (start i .args .image)) (i .before .loop .from)) n (omega (arith, c .if1 .left, c .before .word .ensures)))
+    i .before .loop .inv .2 ∙ below-on _ _ _ (λ k. ltb k n) (i .loop-test .taken) (lt-ltb (wordAt (image i) (i .before .loop .from)) n (omega (arith, c .if1 .left, c .before .word .ensures)))
 
 loop-holds : tie.Need-loop-holds Inv-loop μ-loop
 loop-holds c = (c .before .pre .2, omega arith, refl, omega arith)
@@ -56,7 +74,7 @@ returns : tie.Need-returns Inv-loop μ-loop
 returns c =
     let i = c .before .before in
     let n = start i .args .n in
-    heft-high _ _ _ (i .before .loop .inv .2 ∙ below-no _ _ _ (λ k. ltb k n) (i .loop-test .taken) (le-ltb (wordAt (now (start i .args .image)) (i .before .loop .from)) n (omega (arith, c .if1 .taken, c .before .word .ensures))))
+    heft-high _ _ _ (i .before .loop .inv .2 ∙ below-no _ _ _ (λ k. ltb k n) (i .loop-test .taken) (le-ltb (wordAt (image i) (i .before .loop .from)) n (omega (arith, c .if1 .taken, c .before .word .ensures))))
 
 row-of-requires : tie.Need-row-of-requires Inv-loop μ-loop
 row-of-requires c κs =
@@ -82,8 +100,8 @@ loop-less c = omega (arith, c .before .before .before .before .before .before .l
 loop-again : tie.Need-loop-again Inv-loop μ-loop
 loop-again c =
     let k = c .before .before .before in
-    let i = k .before .before .before in
-    let img = now (start i .args .image) in
+    let i = reading k in
+    let img = image i in
     let r = k .row-of .result in
     let some = i .loop-test .taken in
     let none = row-none img (r .at) (r .count) (tree img) (omega (arith, c .if2 .taken)) in
@@ -92,13 +110,13 @@ loop-again c =
 weigh-row-requires : tie.Need-weigh-row-requires Inv-loop μ-loop
 weigh-row-requires c κs =
     let k = c .before .before .before in
-    let p = start (k .before .before .before) .pre in
+    let p = start (reading k) .pre in
     (p .0, formed-lower _ _ _ (p .1) (k .before .if1 .left), k .row-of .ensures .row)
 
 add-sum-2 : tie.Need-add-sum-2 Inv-loop μ-loop
 add-sum-2 c =
     let k = c .before .before .before .before in
-    let i = k .before .before .before in
+    let i = reading k in
     omega (arith, c .weigh-row .ensures, grows k .0, i .before .loop .inv .1, start i .pre .3)
 
 loop-less-2 : tie.Need-loop-less-2 Inv-loop μ-loop
@@ -107,7 +125,7 @@ loop-less-2 c = omega (arith, c .before .before .before .before .before .before 
 loop-again-2 : tie.Need-loop-again-2 Inv-loop μ-loop
 loop-again-2 c =
     let k = c .before .before .before .before in
-    let i = k .before .before .before in
+    let i = reading k in
     let some = i .loop-test .taken in
     (omega (arith, some, i .before .loop .inv .0), omega (arith, some, c .weigh-row .ensures, grows k .0, i .before .loop .inv .1), tested (k .before), omega (arith, c .weigh-row .ensures, grows k .1))
 
