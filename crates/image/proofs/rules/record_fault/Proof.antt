@@ -7,6 +7,7 @@ use borrow.Author.Needs.{needs}
 use borrow.Author.Tests.{not-false, not-true}
 use denote.Ref.{now}
 use mathlib.Core.Path.{_∙_, _≡_, sym}
+use native.Mathlib.Omega.{arith}
 use Rattle.image.proofs.rules.record_fault.Statement.{statement}
 use Rattle.image.proofs.rules.record_fault.Tie as tie
 
@@ -27,6 +28,19 @@ kept c =
 -- the action of the record, by the words that were read
 read : (c : tie.After-field4) → actionAt (now (at-words c .args .image)) (at-words c .args .n) ≡ actionOf (c .before .before .before .field .result) (c .before .before .field2 .result) (c .before .field3 .result) (c .field4 .result)
 read c = action-read _ _ (c .before .before .before .field .ensures) (c .before .before .field2 .ensures) (c .before .field3 .ensures) (c .field4 .ensures) (at-words c .pre .2)
+
+-- each word is the record's
+field-requires : tie.Need-field-requires
+field-requires c κs = let p = c .before .pre in (omega arith, p .2, p .0 .framed, p .0 .first)
+
+field-requires-2 : tie.Need-field-requires-2
+field-requires-2 c κs = let p = c .before .before .pre in (omega arith, p .2, p .0 .framed, p .0 .first)
+
+field-requires-3 : tie.Need-field-requires-3
+field-requires-3 c κs = let p = c .before .before .before .pre in (omega arith, p .2, p .0 .framed, p .0 .first)
+
+field-requires-4 : tie.Need-field-requires-4
+field-requires-4 c κs = let p = c .before .before .before .before .pre in (omega arith, p .2, p .0 .framed, p .0 .first)
 
 returns : tie.Need-returns
 returns c = form-bad _ _ (sym (formed (c .before)) ∙ not-true _ (c .if1 .taken))
@@ -59,4 +73,4 @@ returns-6 c =
     no-rules _ _ (kept (c .before)) (λ e. other .0 .0 .0 .1 (same ∙ e)) (λ e. other .0 .0 .1 (same ∙ e)) (λ e. other .0 .1 (same ∙ e)) (λ e. other .1 (same ∙ e))
 
 pub record-fault-spec : {M : Type 1} → statement M
-record-fault-spec = tie.close (tie.spec (λ c κs. search needs) (λ c κs. search needs) (λ c κs. search needs) (λ c κs. search needs) (λ c κs. search needs) returns (λ c κs. search needs) (λ c. search needs) (λ c. search needs) codes-fault-requires (λ c. search needs) (λ c. search needs) actions-fault-requires hold-tap-fault-requires returns-2 (λ c. search needs) (λ c. search needs) (λ c. search needs) returns-6)
+record-fault-spec = tie.close (tie.spec field-requires field-requires-2 field-requires-3 field-requires-4 (λ c κs. search needs) returns (λ c κs. search needs) (λ c. search needs) (λ c. search needs) codes-fault-requires (λ c. search needs) (λ c. search needs) actions-fault-requires hold-tap-fault-requires returns-2 (λ c. search needs) (λ c. search needs) (λ c. search needs) returns-6)

@@ -11,6 +11,15 @@ use Rattle.image.proofs.rules.row_of.Tie as tie
 abbrev start : tie.After-field2 → tie.Start
 start c = c .before .before .before
 
+field-requires : tie.Need-field-requires
+field-requires c κs = let p = c .before .pre in (omega arith, p .1 .inside, p .0 .framed, p .0 .first)
+
+field-requires-2 : tie.Need-field-requires-2
+field-requires-2 c κs = let p = c .before .before .pre in (omega arith, p .1 .inside, p .0 .framed, p .0 .first)
+
+field-requires-3 : tie.Need-field-requires-3
+field-requires-3 c κs = let p = start (c .before) .pre in (omega arith, p .1 .inside, p .0 .framed, p .0 .first)
+
 returns : tie.Need-returns
 returns c =
     let w = c .before .before in
@@ -31,4 +40,4 @@ returns-3 c =
     pair-row _ _ _ _ (s .pre .0) (s .pre .1) (s .pre .2) (seven _ _ _ _ _ (s .pre .1 .form) (omega (arith, c .if2 .left, w .before .field .ensures)))
 
 pub row-of-spec : {M : Type 1} → statement M
-row-of-spec = tie.close (tie.spec (λ c κs. search needs) (λ c κs. search needs) (λ c. search needs) (λ c κs. search needs) (λ c. search needs) (λ c. search needs) (λ c. search needs) returns (λ c. search needs) returns-2 (λ c. search needs) (λ c. search needs) (λ c. search needs) (λ c. search needs) returns-3)
+row-of-spec = tie.close (tie.spec field-requires field-requires-2 (λ c. search needs) field-requires-3 (λ c. search needs) (λ c. search needs) (λ c. search needs) returns (λ c. search needs) returns-2 (λ c. search needs) (λ c. search needs) (λ c. search needs) (λ c. search needs) returns-3)
