@@ -7,7 +7,7 @@ use native.Mathlib.Numerals.{add-one, sub-one}
 use native.Mathlib.Omega.{arith}
 use native.Mathlib.Nat.{add-comm}
 use lib.ListN.{length, take, drop, set, getD, replicate, length-append, length-replicate, length-take, length-drop, length-map, drop-of-length-le, take-append-drop, List·getD-append}
-use lib.Seq.{set-at, set-append-seam, append-snoc, take-append-seam, take-suc, length-take-le, drop-cons, getD-take, getD-drop, take-nil}
+use lib.Seq.{set-at, set-append-seam, append-snoc, take-append-seam, take-suc, length-take-le, drop-cons, drop-at, getD-at, getD-take, getD-drop, take-nil}
 use Rattle.lists.specs.Lists.{keep}
 use Rattle.layout.specs.Packed.{pad}
 
@@ -78,31 +78,40 @@ module _ {A : Type 0} where
       go true h = omega arith
       go false h = omega arith
 
-  -- a loop that copies into a fresh array: the array after a turn at k
-  pub take-more : (n : ℕ) (z : A) (l : List A) (k : ℕ) (d : A) (arr : List A) → k < n → k < length l → arr ≡ pad n z (take k l)
-      → set arr k (getD l k d) ≡ pad n z (take (k + 1) l)
-  take-more n z l k d arr hn hl e =
-      let len : length (take k l) ≡ k = length-take-le k l (omega arith) in
-      rw (add-one, take-suc l k d) (held-more n z (take k l) (getD l k d) arr k hn (sym len) e .1)
-
-  -- the same in a list whose first element is left out
-  pub tail-more : (n : ℕ) (z : A) (l : List A) (k : ℕ) (d : A) (arr : List A) → k < n → k + 1 < length l → arr ≡ pad n z (take k (drop 1 l))
-      → set arr k (getD l (k + 1) d) ≡ pad n z (take (k + 1) (drop 1 l))
-  tail-more n z l k d arr hn hl e =
-      let len : length (drop 1 l) ≡ length l - 1 = length-drop 1 l in
-      let at : getD (drop 1 l) k d ≡ getD l (k + 1) d = getD-drop 1 l k d ∙ ap (λ (j : ℕ). getD l j d) (add-comm 1 k) in
-      rw (← at) (take-more n z (drop 1 l) k d arr hn (omega arith) e)
-
-  pub drop1-take : (n : ℕ) (l : List A) → drop 1 (take n l) ≡ take (n - 1) (drop 1 l)
-  drop1-take zero l = refl
-  drop1-take (suc n) [] = sym (take-nil (suc n - 1))
-  drop1-take (suc n) (a ∷ l) = rw sub-one
-
   -- one more element written into a lent buffer, whose rest stays
   pub buf-more : (l b : List A) (a : A) (k : ℕ) → k ≡ length l → k < length b → set (l ++ drop k b) k a ≡ (l ++ (a ∷ [])) ++ drop (k + 1) b
   buf-more l b a k e h =
       let one : drop k b ≡ getD b k a ∷ drop (k + 1) b = rw (add-one, drop-cons b k a) in
       rw (one, append-snoc) (set-at l (getD b k a) (drop (k + 1) b) a k (sym e))
+
+  -- a loop that changes an array place by place: the array before and after a turn at k, where l are the new elements so far
+  pub place-at : (l arr : List A) (k : ℕ) (d : A) → k ≡ length l → k < length arr → getD (l ++ drop k arr) k d ≡ getD arr k d
+  place-at l arr k d e h = rw (drop-cons arr k d h) (getD-at l (getD arr k d) (drop (suc k) arr) d k (sym e))
+
+  pub place-next : (l arr : List A) (k : ℕ) (d : A) → k ≡ length l → k + 1 < length arr → getD (l ++ drop k arr) (k + 1) d ≡ getD arr (k + 1) d
+  place-next l arr k d e h =
+      let one : l ++ drop k arr ≡ (l ++ (getD arr k d ∷ [])) ++ drop (k + 1) arr = rw (add-one, append-snoc) (ap (λ (x : List A). l ++ x) (drop-cons arr k d (omega arith))) in
+      rw one (place-at (l ++ (getD arr k d ∷ [])) arr (k + 1) d (simp length-append (omega arith)) h)
+
+  -- a loop that moves each element one place up
+  pub tail-on : (l arr : List A) (k : ℕ) (d : A) → k + 1 < length l → arr ≡ take k (drop 1 l) ++ drop k l → set arr k (getD arr (k + 1) d) ≡ take (k + 1) (drop 1 l) ++ drop (k + 1) l
+  tail-on l arr k d h e =
+      let short = length-drop 1 l in
+      let here : k ≡ length (take k (drop 1 l)) = sym (length-take-le k (drop 1 l) (omega arith)) in
+      let next : getD (drop 1 l) k d ≡ getD l (k + 1) d = getD-drop 1 l k d ∙ ap (λ (j : ℕ). getD l j d) (add-comm 1 k) in
+      let more : take (k + 1) (drop 1 l) ≡ take k (drop 1 l) ++ (getD l (k + 1) d ∷ []) = rw (← next) (rw (add-one) (take-suc (drop 1 l) k d (omega arith))) in
+      rw (e, place-next (take k (drop 1 l)) l k d here h, buf-more (take k (drop 1 l)) l (getD l (k + 1) d) k here (omega arith), more)
+
+  -- what stands behind the used places of an array
+  pub clean-rest : (n k : ℕ) (z : A) (arr : List A) → k ≤ length arr → pad n z (take k arr) ≡ arr → drop k arr ≡ replicate (n - k) z
+  clean-rest n k z arr h clean =
+      let len : length (take k arr) ≡ k = length-take-le k arr h in
+      ap (drop k) (sym clean) ∙ drop-at (take k arr) _ k len ∙ ap (λ (j : ℕ). replicate (n - j) z) len
+
+  pub drop1-take : (n : ℕ) (l : List A) → drop 1 (take n l) ≡ take (n - 1) (drop 1 l)
+  drop1-take zero l = refl
+  drop1-take (suc n) [] = sym (take-nil (suc n - 1))
+  drop1-take (suc n) (a ∷ l) = rw sub-one
 
   -- the first n of a list and n zeros behind are the list, where those behind are the zero
   pub padded : (n k : ℕ) (z : A) (l : List A) → length l ≡ n → k ≤ n → drop k l ≡ replicate (n - k) z → pad n z (take k l) ≡ l
@@ -114,9 +123,9 @@ pub map-append : {A B : Type 0} (f : A → B) (k l : List A) → map f (k ++ l) 
 map-append f [] l = refl
 map-append f (a ∷ k) l = ap (λ (x : List _). f a ∷ x) (map-append f k l)
 
--- the same where each element goes through f
-pub map-more : {A : Type 0} (f : A → A) (n : ℕ) (z : A) (l : List A) (k : ℕ) (d : A) (arr : List A) → k < n → k < length l → arr ≡ pad n z (map f (take k l))
-    → set arr k (f (getD l k d)) ≡ pad n z (map f (take (k + 1) l))
-map-more f n z l k d arr hn hl e =
-    let len : k ≡ length (map f (take k l)) = sym (rw (length-map, length-take-le k l (omega arith))) in
-    rw (add-one, take-suc l k d, map-append) (held-more n z (map f (take k l)) (f (getD l k d)) arr k hn len e .1)
+-- a loop that puts each element through f
+pub map-on : {A : Type 0} (f : A → A) (l arr : List A) (k : ℕ) (d : A) → k < length l → arr ≡ map f (take k l) ++ drop k l → set arr k (f (getD arr k d)) ≡ map f (take (k + 1) l) ++ drop (k + 1) l
+map-on f l arr k d h e =
+    let here : k ≡ length (map f (take k l)) = sym (rw (length-map, length-take-le k l (omega arith))) in
+    let more : map f (take (k + 1) l) ≡ map f (take k l) ++ (f (getD l k d) ∷ []) = rw (add-one, take-suc l k d h, map-append) in
+    rw (e, place-at (map f (take k l)) l k d here h, buf-more (map f (take k l)) l (f (getD l k d)) k here h, more)

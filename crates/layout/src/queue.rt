@@ -47,38 +47,35 @@ pub(crate) fn age(queue: Queue) -> Queue
     ensures { λ r. ⌜ Lined r × (listIn r ≡ older (listIn queue)) ⌝ }
 {
     let n = queue.queued;
-    let zero = Stacked {
-        event: Event::Release(0, 0),
-        since: 0,
-    };
-    let mut stacked = [zero; Layout::QUEUE];
+    let mut out = queue;
     let mut k: usize = 0;
     while k < n {
-        let s = queue.stacked[k];
-        stacked[k] = one_older(s);
+        let s = out.stacked[k];
+        out.stacked[k] = one_older(s);
         k += 1;
     }
-    Queue { stacked, queued: n }
+    out
 }
 
-// The oldest leaves.
+// The oldest leaves: the others move up, and the last place is unused.
 pub(crate) fn shift(queue: Queue) -> Queue
     requires { ⌜ Lined queue × (0 < queue .queued) ⌝ }
     ensures { λ r. ⌜ Lined r × (listIn r ≡ drop 1 (listIn queue)) ⌝ }
 {
-    let n = queue.queued - 1;
-    let zero = Stacked {
+    let last = queue.queued - 1;
+    let mut out = queue;
+    let mut k: usize = 0;
+    while k < last {
+        let s = out.stacked[k + 1];
+        out.stacked[k] = s;
+        k += 1;
+    }
+    out.stacked[last] = Stacked {
         event: Event::Release(0, 0),
         since: 0,
     };
-    let mut stacked = [zero; Layout::QUEUE];
-    let mut k: usize = 0;
-    while k < n {
-        let s = queue.stacked[k + 1];
-        stacked[k] = s;
-        k += 1;
-    }
-    Queue { stacked, queued: n }
+    out.queued = last;
+    out
 }
 
 // A new event has age 0.

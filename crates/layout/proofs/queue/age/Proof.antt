@@ -1,41 +1,45 @@
 -- `layout::queue::age` meets its contract. Assumes nothing.
 use Prim.Native.Nat.{_-_, _≤_}
-use mathlib.Core.List.{map}
-use mathlib.Core.Path.{_≡_, refl, sym}
+use mathlib.Core.List.{_++_, map}
+use mathlib.Core.Path.{_≡_, refl, sym, _∙_}
 use native.Mathlib.Omega.{arith}
 use borrow.Author.Needs.{needs}
-use Rattle.layout.specs.Packed.{pad, noStacked}
+use Rattle.layout.specs.Packed.{noStacked}
 use Rattle.layout.specs.Steps.{olderOne}
-use lib.ListN.{length, take, length-map}
-use Rattle.layout.proofs.Pads.{map-more}
+use lib.ListN.{length, take, drop, length-map}
+use Rattle.layout.proofs.Pads.{map-on, clean-rest}
 use Rattle.layout.proofs.Runs.{lined-length, list-length, new-queue}
 use Rattle.layout.proofs.queue.age.Statement.{statement}
 use Rattle.layout.proofs.queue.age.Tie as tie
 
 abbrev Inv-loop : tie.InvT-loop
-Inv-loop queue n stacked₀ k₀ stacked k =
-    (k ≤ n) × (stacked ≡ pad 16 noStacked (map olderOne (take k (queue .stacked))))
+Inv-loop n out₀ k₀ out k =
+    (k ≤ n) × (out .queued ≡ out₀ .queued) × (out .stacked ≡ map olderOne (take k (out₀ .stacked)) ++ drop k (out₀ .stacked))
 
 abbrev μ-loop : tie.MeasureT-loop
-μ-loop queue n stacked₀ k₀ stacked k = n - k
+μ-loop n out₀ k₀ out k = n - k
 
 loop-holds : tie.Need-loop-holds Inv-loop μ-loop
-loop-holds c = (omega arith, refl)
+loop-holds c = (omega arith, refl, refl)
 
 loop-again : tie.Need-loop-again Inv-loop μ-loop
 loop-again c =
     let b = c .before .before .before in
     let s = b .before in
-    let long = lined-length (s .args .t1) (s .pre) in
-    (omega arith, rw (c .one-older .ensures) (map-more olderOne 16 noStacked (s .args .t1 .stacked) (b .loop .k) _ (b .loop .stacked) (omega (arith, s .pre .few)) (omega (arith, s .pre .few)) (b .loop .inv .1)))
+    let long = lined-length (s .args .queue) (s .pre) in
+    (omega arith, b .loop .inv .1, rw (c .one-older .ensures) (map-on olderOne (s .args .queue .stacked) (b .loop .out .stacked) (b .loop .k) noStacked (omega (arith, s .pre .few)) (b .loop .inv .2)))
 
 returns : tie.Need-returns Inv-loop μ-loop
 returns c =
     let b = c .before in
     let s = b .before in
-    let all : b .loop .k ≡ s .args .t1 .queued = omega arith in
-    let count : length (map olderOne (take (s .args .t1 .queued) (s .args .t1 .stacked))) ≡ s .args .t1 .queued = rw (length-map) (list-length (s .args .t1) (s .pre)) in
-    new-queue (map olderOne (take (s .args .t1 .queued) (s .args .t1 .stacked))) (b .loop .stacked) (s .args .t1 .queued) (omega (arith, s .pre .few)) (sym count) (rw all at (b .loop .inv .1))
+    let q = s .args .queue in
+    let few = s .pre .few in
+    let long = lined-length q (s .pre) in
+    let all : b .loop .k ≡ q .queued = omega arith in
+    let count : length (map olderOne (take (q .queued) (q .stacked))) ≡ q .queued = rw (length-map) (list-length q (s .pre)) in
+    let rest = clean-rest 16 (q .queued) noStacked (q .stacked) (omega arith) (s .pre .clean) in
+    new-queue (map olderOne (take (q .queued) (q .stacked))) (b .loop .out .stacked) (b .loop .out .queued) (omega arith) (b .loop .inv .1 ∙ sym count) (rw all at (b .loop .inv .2) ∙ rw (rest, count))
 
 pub age-spec : {M : Type 1} → statement M
 age-spec =
