@@ -1,5 +1,6 @@
 pub mod Pads
 pub mod Runs
+pub mod Turns
 pub mod Codes
 pub mod Moves
 pub mod Presses

@@ -6,3 +6,4 @@ pub mod Calls
 pub mod Parts
 pub mod Reach
 pub mod Inside
+pub mod Turns

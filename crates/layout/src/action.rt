@@ -1,16 +1,16 @@
 // Running an action and deciding a hold-tap, which call each other: document 01, Layout. The record number falls. Nothing
 // here changes the queue: the first queued release of the key is looked up once, before, and handed along.
 // Assumes nothing.
+use super::layout::Layout;
 use super::queue::Found;
-use super::run::Run;
-use super::run::State;
 use super::run::Waiting;
 use super::run::Way;
 use super::run::note_decision;
-use super::run::push_key;
-use super::run::push_state;
-use super::run::wait_on;
-use super::run::with_default;
+use super::turn::Turn;
+use super::turn::push_key;
+use super::turn::push_layer;
+use super::turn::wait_on;
+use super::turn::with_default;
 use event::Coord;
 use image::Action;
 use image::Entry;
@@ -30,7 +30,8 @@ ghost use Rattle.image.specs.Tree.{tree};
 ghost use Rattle.image.specs.Sound.{Sound};
 ghost use Rattle.layout.specs.Actions.{pushCodes, doAction, decided};
 ghost use Rattle.layout.specs.Packed.{holdOf, tapOf};
-ghost use Rattle.layout.specs.Inside.{Tidy, Does};
+ghost use Rattle.event.specs.declared.Coord.{Coord as At};
+ghost use Rattle.layout.specs.Turns.{Roomy, Turned};
 
 // Where and how an action runs: in a table of so many layers, at the coordinates of its key, with its delay, and with the
 // first queued release of them.
@@ -62,34 +63,38 @@ pub(crate) fn less(timeout: u16, delay: u16) -> u16
 }
 
 // What waits is decided: it waits no more, and the decision is noted.
-fn settle(run: Run, coord: Coord, way: Way) -> Run
-    requires { ⌜ Tidy run ⌝ }
-    ensures { λ r. ⌜ ((img : List ℕ) → Does img run r (λ l. marked (Model.Decided coord way) (still (withWaiting Model.Idle l)))) ⌝ }
+fn settle(turn: Turn, coord: Coord, way: Way) -> Turn
+    ensures { λ r. ⌜ ((img : List ℕ) (c : At) (a : List ℕ) → Roomy turn a → Turned img c turn r a a (λ l. marked (Model.Decided coord way) (still (withWaiting Model.Idle l)))) ⌝ }
 {
-    let states = run.states;
-    let notes = note_decision(run.notes, coord, way);
-    Run {
-        default_layer: run.default_layer,
-        states,
-        len: run.len,
+    let notes = note_decision(turn.notes, coord, way);
+    Turn {
+        default_layer: turn.default_layer,
+        held: turn.held,
+        added: turn.added,
         waiting: Waiting::Nothing,
         notes,
     }
 }
 
 // The codes of a MultipleKeyCodes, one after the other.
-fn push_codes(image: &[u8], run: Run, first: u16, count: u16, coord: Coord) -> Run
-    requires { ⌜ Tidy run × (every legal (entries (now image) first count) ≡ true) × (first + count ≤ entriesOf (now image)) ⌝ }
-    ensures { λ r. ⌜ Does (now (image .entry)) run r (pushCodes (entries (now (image .entry)) first count) coord) ⌝ }
+fn push_codes(
+    image: &[u8],
+    turn: Turn,
+    first: u16,
+    count: u16,
+    added: &mut [u32; Layout::STATES],
+) -> Turn
+    requires { ⌜ Roomy turn (now added) × (every legal (entries (now image) first count) ≡ true) × (first + count ≤ entriesOf (now image)) ⌝ }
+    ensures { λ r. ⌜ ((c : At) → Turned (now (image .entry)) c turn r (now (added .entry)) (now (added .exit)) (pushCodes (entries (now (image .entry)) first count) c)) ⌝ }
 {
     let mut at = first as usize;
     let mut left = count;
-    let mut out = run;
+    let mut out = turn;
     while 0 < left {
         let Entry::Word(code) = entry_at(image, at) else {
             return out;
         };
-        out = push_key(out, code, coord);
+        out = push_key(out, code, added);
         at += 1;
         left -= 1;
     }
@@ -97,54 +102,74 @@ fn push_codes(image: &[u8], run: Run, first: u16, count: u16, coord: Coord) -> R
 }
 
 // A hold-tap is decided: it waits no more, and its hold or its tap runs with delay 0.
-pub(crate) fn decide(image: &[u8], run: Run, n: u16, press: Press, way: Way) -> Run
-    requires { ⌜ Sound (now image) × Tidy run ⌝ }
-    ensures { λ r. ⌜ Does (now (image .entry)) run r (decided way (holdOf (tree (now (image .entry)) n)) (tapOf (tree (now (image .entry)) n)) (press .layers) (press .coord) (press .found)) ⌝ }
+pub(crate) fn decide(
+    image: &[u8],
+    turn: Turn,
+    n: u16,
+    press: Press,
+    way: Way,
+    added: &mut [u32; Layout::STATES],
+) -> Turn
+    requires { ⌜ Sound (now image) × Roomy turn (now added) ⌝ }
+    ensures { λ r. ⌜ Turned (now (image .entry)) (press .coord) turn r (now (added .entry)) (now (added .exit)) (decided way (holdOf (tree (now (image .entry)) n)) (tapOf (tree (now (image .entry)) n)) (press .layers) (press .coord) (press .found)) ⌝ }
 {
     let coord = press.coord;
-    let quiet = settle(run, coord, way);
+    let quiet = settle(turn, coord, way);
     let mut now = press;
     now.delay = 0;
     let Action::HoldTap(_, hold, tap) = action_at(image, n as usize) else {
         return quiet;
     };
     match way {
-        Way::Tap => do_action(image, quiet, tap, now),
-        Way::Hold => do_action(image, quiet, hold, now),
+        Way::Tap => do_action(image, quiet, tap, now, added),
+        Way::Hold => do_action(image, quiet, hold, now, added),
     }
 }
 
 // Runs record n.
-pub(crate) fn do_action(image: &[u8], run: Run, n: u16, press: Press) -> Run
-    requires { ⌜ Sound (now image) × Tidy run ⌝ }
-    ensures { λ r. ⌜ Does (now (image .entry)) run r (doAction (tree (now (image .entry)) n) (press .layers) (press .coord) (press .delay) (press .found)) ⌝ }
+pub(crate) fn do_action(
+    image: &[u8],
+    turn: Turn,
+    n: u16,
+    press: Press,
+    added: &mut [u32; Layout::STATES],
+) -> Turn
+    requires { ⌜ Sound (now image) × Roomy turn (now added) ⌝ }
+    ensures { λ r. ⌜ Turned (now (image .entry)) (press .coord) turn r (now (added .entry)) (now (added .exit)) (doAction (tree (now (image .entry)) n) (press .layers) (press .coord) (press .delay) (press .found)) ⌝ }
 {
     let coord = press.coord;
     let found = press.found;
     match action_at(image, n as usize) {
-        Action::NoOp => run,
-        Action::Trans => run,
-        Action::KeyCode(code) => push_key(run, code, coord),
-        Action::MultipleKeyCodes(first, count) => push_codes(image, run, first, count, coord),
+        Action::NoOp => turn,
+        Action::Trans => turn,
+        Action::KeyCode(code) => push_key(turn, code, added),
+        Action::MultipleKeyCodes(first, count) => push_codes(image, turn, first, count, added),
         Action::MultipleActions(first, count) => {
             let mut at = first as usize;
             let mut left = count;
-            let mut out = run;
+            let mut out = turn;
             while 0 < left {
                 let Entry::Word(k) = entry_at(image, at) else {
                     return out;
                 };
-                out = do_action(image, out, k, press);
+                out = do_action(image, out, k, press, added);
                 at += 1;
                 left -= 1;
             }
             out
         }
-        Action::Layer(value) => push_state(run, State::LayerModifier { value, coord }),
-        Action::DefaultLayer(value) => with_default(run, press.layers, value),
+        Action::Layer(value) => push_layer(turn, value, added),
+        Action::DefaultLayer(value) => with_default(turn, press.layers, value),
         Action::HoldTap(timeout, _, _) => match found {
-            Found::None => wait_on(run, coord, less(timeout, press.delay), n),
-            Found::At(since) => decide(image, run, n, press, tie(timeout, press.delay, since)),
+            Found::None => wait_on(turn, coord, less(timeout, press.delay), n),
+            Found::At(since) => decide(
+                image,
+                turn,
+                n,
+                press,
+                tie(timeout, press.delay, since),
+                added,
+            ),
         },
     }
 }

@@ -6,6 +6,7 @@ pub mod queue;
 pub mod run;
 pub mod state;
 pub mod steps;
+pub mod turn;
 
 pub use layout::Answer;
 pub use layout::Answered;

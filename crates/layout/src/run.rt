@@ -6,13 +6,9 @@ use event::Coord;
 use event::Event;
 ghost use mathlib.Core.Path.{_≡_};
 ghost use Prim.Native.Nat.{ℕ, _≤_};
-ghost use Rattle.codes.specs.Codes.{legal};
-ghost use mathlib.Core.Bool.{true, cond};
 ghost use mathlib.Core.List.{List};
-ghost use lib.Dec.{ltb};
 ghost use lib.ListN.{length};
-ghost use Rattle.layout.specs.Model.{same, still, withBase, withStates, withWaiting};
-ghost use Rattle.layout.specs.Actions.{push};
+ghost use Rattle.layout.specs.Model.{same, still, withStates, withWaiting};
 ghost use Rattle.layout.specs.Steps.{coordIn, release as releaseOf, current, held, codes};
 ghost use Rattle.layout.specs.Packed.{statesIn, waitingOf, noteDecision, laid};
 ghost use Rattle.layout.specs.Inside.{Tidy, Does};
@@ -94,51 +90,8 @@ pub(crate) fn note_decision(notes: Notes, coord: Coord, way: Way) -> Notes
     }
 }
 
-// One state more. A 65th is dropped.
-pub(crate) fn push_state(run: Run, state: State) -> Run
-    requires { ⌜ Tidy run ⌝ }
-    ensures { λ r. ⌜ ((img : List ℕ) → Does img run r (push state)) ⌝ }
-{
-    let n = run.len;
-    if n < Layout::STATES {
-        let mut out = run;
-        out.states[n] = Slot { state };
-        out.len = n + 1;
-        return out;
-    }
-    run
-}
-
-// A key's code held.
-pub(crate) fn push_key(run: Run, code: u16, coord: Coord) -> Run
-    requires { ⌜ Tidy run × (legal code ≡ true) ⌝ }
-    ensures { λ r. ⌜ ((img : List ℕ) → Does img run r (push (State.NormalKey code coord))) ⌝ }
-{
-    push_state(
-        run,
-        State::NormalKey {
-            keycode: code as u8,
-            coord,
-        },
-    )
-}
-
-// A hold-tap waits.
-pub(crate) fn wait_on(run: Run, coord: Coord, left: u16, number: u16) -> Run
-    requires { ⌜ Tidy run ⌝ }
-    ensures { λ r. ⌜ ((img : List ℕ) → Does img run r (λ l. still (withWaiting (waitingOf img (Waiting.On (record { coord = coord; left = left; number = number }))) l))) ⌝ }
-{
-    with_waiting(
-        run,
-        Waiting::On(WaitingState {
-            coord,
-            left,
-            number,
-        }),
-    )
-}
-
-fn with_waiting(run: Run, waiting: Waiting) -> Run
+// Something else waits.
+pub(crate) fn with_waiting(run: Run, waiting: Waiting) -> Run
     requires { ⌜ Tidy run ⌝ }
     ensures { λ r. ⌜ ((img : List ℕ) → Does img run r (λ l. still (withWaiting (waitingOf img waiting) l))) ⌝ }
 {
@@ -151,20 +104,6 @@ fn with_waiting(run: Run, waiting: Waiting) -> Run
         waiting,
         notes,
     }
-}
-
-// A DefaultLayer not below the number of layers does nothing.
-pub(crate) fn with_default(run: Run, layers: usize, value: u16) -> Run
-    requires { ⌜ Tidy run ⌝ }
-    ensures { λ r. ⌜ ((img : List ℕ) → Does img run r (λ l. cond (ltb value layers) (still (withBase value l)) (still l))) ⌝ }
-{
-    let layer = value as usize;
-    if layer < layers {
-        let mut out = run;
-        out.default_layer = layer;
-        return out;
-    }
-    run
 }
 
 pub(crate) fn is_same(a: Coord, b: Coord) -> bool

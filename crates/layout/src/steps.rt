@@ -19,7 +19,9 @@ use super::run::Waiting;
 use super::run::Way;
 use super::run::current_layer;
 use super::run::release;
-use super::run::wait_on;
+use super::run::with_waiting;
+use super::turn::run_after;
+use super::turn::turn_of;
 use event::Coord;
 use event::Event;
 use image::Action;
@@ -100,17 +102,15 @@ fn unstack(image: &[u8], layers: usize, run: Run, queue: Queue, stacked: Stacked
                 return acting;
             };
             let found = find_release(queue, coord);
-            do_action(
-                image,
-                acting,
-                n,
-                Press {
-                    layers,
-                    coord,
-                    delay: since,
-                    found,
-                },
-            )
+            let press = Press {
+                layers,
+                coord,
+                delay: since,
+                found,
+            };
+            let mut added = [0u32; Layout::STATES];
+            let turn = do_action(image, turn_of(acting), n, press, &mut added);
+            run_after(acting, turn, &added, coord)
         }
     }
 }
@@ -127,18 +127,15 @@ fn waiting_into(image: &[u8], layers: usize, run: Run, queue: Queue, way: Way) -
     let coord = w.coord;
     let number = w.number;
     let found = find_release(queue, coord);
-    decide(
-        image,
-        run,
-        number,
-        Press {
-            layers,
-            coord,
-            delay: 0,
-            found,
-        },
-        way,
-    )
+    let press = Press {
+        layers,
+        coord,
+        delay: 0,
+        found,
+    };
+    let mut added = [0u32; Layout::STATES];
+    let turn = decide(image, turn_of(run), number, press, way, &mut added);
+    run_after(run, turn, &added, coord)
 }
 
 fn waiting_into_hold(image: &[u8], layers: usize, run: Run, queue: Queue) -> Run
@@ -236,9 +233,10 @@ pub(crate) fn ticked(image: &[u8], layers: usize, parts: Parts) -> Parts
     let waiting = run.waiting;
     match waiting {
         Waiting::On(w) => {
-            let coord = w.coord;
             let left = less(w.left, 1);
-            let next = wait_on(run, coord, left, w.number);
+            let mut waits = w;
+            waits.left = left;
+            let next = with_waiting(run, Waiting::On(waits));
             if 0 < left {
                 return Parts { run: next, queue };
             }

@@ -23,13 +23,14 @@ use Rattle.image.specs.declared.record.Action.{Action as Record}
 use Rattle.image.specs.declared.record.Action.the-variants as code
 use Rattle.image.proofs.record.Action.{the-type}
 use Rattle.image.proofs.Accepted.{tells, hold-lower, key-legal, entry-is, entry-not, all-head, all-tail, named-step, named-none}
-use Rattle.layout.specs.Model.{Model, Idle, Begun, marked, withWaiting}
+use Rattle.layout.specs.Model.{Model, Idle, Begun, Decided, still, marked, withWaiting}
 use Rattle.layout.specs.Actions.{doAction, doActions, decided, chosen, begins, Now, verdict}
 use Rattle.layout.specs.Packed.{holdOf, tapOf}
+use Rattle.layout.specs.Turns.{Turned}
 use Rattle.layout.specs.declared.run.Way.{Way}
 use Rattle.layout.specs.declared.run.Way.the-variants.{Tap, Hold}
 use Rattle.layout.specs.declared.queue.Found.{Found}
-use Rattle.layout.proofs.Runs.{Left, left-start, left-step, left-end, does-as, does-then, does-begun, does-nothing}
+use Rattle.layout.proofs.Turns.{Left, left-start, left-step, left-end, turned-as, turned-then, turned-begun, turned-nothing}
 use Rattle.layout.proofs.action.decide.Reads as decide
 use Rattle.layout.proofs.action.decide.Kinds as decide-kinds
 use Rattle.layout.proofs.action.+decide+do_action.Lts-decide as decide-lts
@@ -42,45 +43,45 @@ use Rattle.layout.proofs.action.less.Reads as less-reads
 use Rattle.layout.proofs.action.push_codes.Reads as push-codes-reads
 use Rattle.layout.proofs.action.settle.Reads as settle-reads
 use Rattle.layout.proofs.action.tie.Reads as tie-reads
-use Rattle.layout.proofs.run.push_key.Reads as push-key-reads
-use Rattle.layout.proofs.run.push_state.Reads as push-state-reads
-use Rattle.layout.proofs.run.with_default.Reads as with-default-reads
-use Rattle.layout.proofs.run.wait_on.Reads as wait-on-reads
+use Rattle.layout.proofs.turn.push_key.Reads as push-key-reads
+use Rattle.layout.proofs.turn.push_layer.Reads as push-layer-reads
+use Rattle.layout.proofs.turn.with_default.Reads as with-default-reads
+use Rattle.layout.proofs.turn.wait_on.Reads as wait-on-reads
 use Rattle.layout.proofs.action.+decide+do_action.{statement}
 use Rattle.layout.proofs.action.+decide+do_action.Tie.{close}
 
-abbrev μ-decide : Measures 1 decide-kinds.ps ℕ
+abbrev μ-decide : Measures 2 decide-kinds.ps ℕ
 μ-decide κs a = 2 * a .1 .1 .0
 
-abbrev μ-do-action : Measures 1 do-action-kinds.ps ℕ
+abbrev μ-do-action : Measures 2 do-action-kinds.ps ℕ
 μ-do-action κs a = 2 * a .1 .1 .0 + 1
 
-abbrev decide-at : ℕ → In 1 decide-kinds.ps
-decide-at t = and 1 decide-kinds.ps (is 1 decide-kinds.ps μ-decide t) decide.Pre
+abbrev decide-at : ℕ → In 2 decide-kinds.ps
+decide-at t = and 2 decide-kinds.ps (is 2 decide-kinds.ps μ-decide t) decide.Pre
 
-abbrev decide-below : ℕ → In 1 decide-kinds.ps
-decide-below t = and 1 decide-kinds.ps (falls 1 decide-kinds.ps _<_ μ-decide t) decide.Pre
+abbrev decide-below : ℕ → In 2 decide-kinds.ps
+decide-below t = and 2 decide-kinds.ps (falls 2 decide-kinds.ps _<_ μ-decide t) decide.Pre
 
-abbrev do-action-at : ℕ → In 1 do-action-kinds.ps
-do-action-at t = and 1 do-action-kinds.ps (is 1 do-action-kinds.ps μ-do-action t) do-action.Pre
+abbrev do-action-at : ℕ → In 2 do-action-kinds.ps
+do-action-at t = and 2 do-action-kinds.ps (is 2 do-action-kinds.ps μ-do-action t) do-action.Pre
 
-abbrev do-action-below : ℕ → In 1 do-action-kinds.ps
-do-action-below t = and 1 do-action-kinds.ps (falls 1 do-action-kinds.ps _<_ μ-do-action t) do-action.Pre
+abbrev do-action-below : ℕ → In 2 do-action-kinds.ps
+do-action-below t = and 2 do-action-kinds.ps (falls 2 do-action-kinds.ps _<_ μ-do-action t) do-action.Pre
 
 -- what the functions called promise
 abbrev decide-calls : ℕ → decide-lts.Claims
 decide-calls t = (settle-reads.Asked, settle-reads.Learnt, action-at-reads.Asked, action-at-reads.Learnt, do-action-below t, do-action.Post)
 
 abbrev do-action-calls : ℕ → do-action-lts.Claims
-do-action-calls t = (action-at-reads.Asked, action-at-reads.Learnt, push-key-reads.Asked, push-key-reads.Learnt, push-codes-reads.Asked, push-codes-reads.Learnt, entry-at-reads.Asked, entry-at-reads.Learnt, do-action-below t, do-action.Post, push-state-reads.Asked, push-state-reads.Learnt, with-default-reads.Asked, with-default-reads.Learnt, less-reads.Asked, less-reads.Learnt, wait-on-reads.Asked, wait-on-reads.Learnt, tie-reads.Asked, tie-reads.Learnt, decide-below t, decide.Post)
+do-action-calls t = (action-at-reads.Asked, action-at-reads.Learnt, push-key-reads.Asked, push-key-reads.Learnt, push-codes-reads.Asked, push-codes-reads.Learnt, entry-at-reads.Asked, entry-at-reads.Learnt, do-action-below t, do-action.Post, push-layer-reads.Asked, push-layer-reads.Learnt, with-default-reads.Asked, with-default-reads.Learnt, less-reads.Asked, less-reads.Learnt, wait-on-reads.Asked, wait-on-reads.Learnt, tie-reads.Asked, tie-reads.Learnt, decide-below t, decide.Post)
 
 abbrev do-action-Inv-loop : do-action-lts.InvT-loop
-do-action-Inv-loop image n press first count at₀ left₀ out₀ at left out =
+do-action-Inv-loop image n press added₀ first count at₀ left₀ out₀ added at left out =
     (at + left ≡ first + count) × (every (λ k. ltb k n) (entries image at left) ≡ true)
-    × Left image out₀ out (doActions (named (tree image) (entries image first count)) (press .layers) (press .coord) (press .delay) (press .found)) (doActions (named (tree image) (entries image at left)) (press .layers) (press .coord) (press .delay) (press .found))
+    × Left image (press .coord) out₀ out added₀ added (doActions (named (tree image) (entries image first count)) (press .layers) (press .coord) (press .delay) (press .found)) (doActions (named (tree image) (entries image at left)) (press .layers) (press .coord) (press .delay) (press .found))
 
 abbrev do-action-μ-loop : do-action-lts.MeasureT-loop
-do-action-μ-loop image n press first count at₀ left₀ out₀ at left out = left
+do-action-μ-loop image n press added₀ first count at₀ left₀ out₀ added at left out = left
 
 -- what the record that was read says
 decide-means : (t : ℕ) (c : decide-lts.After-action-at (decide-calls t) (decide-at t) decide.Post) {x : Record} → c .action-at .result ≡ x
@@ -114,6 +115,12 @@ unfolding decided
 begins-now Tap h p n c f l w = refl
 begins-now Hold h p n c f l w = refl
 
+-- the turn that is settled, with nothing added yet
+decide-settled : (t : ℕ) (c : decide-lts.After-settle (decide-calls t) (decide-at t) decide.Post)
+    → let s = c .before .before .before in
+    Turned (s .args .image .now) (s .args .press .coord) (s .args .turn) (c .settle .result) (s .args .added .now) (s .args .added .now) (λ l. marked (Decided (s .args .press .coord) (s .args .way)) (still (withWaiting Idle l)))
+decide-settled t c = let s = c .before .before .before in c .settle .ensures (s .args .image .now) (s .args .press .coord) (s .args .added .now) (s .pre .1 .1)
+
 decide-returns : (t : ℕ) → decide-lts.Need-returns (decide-calls t) (decide-at t) decide.Post
 unfolding decided doAction
 decide-returns t c =
@@ -121,55 +128,57 @@ decide-returns t c =
     let s = r .before .before .before .before in
     let m = decide-means t r refl in
     let none = no-hold (s .args .image .now) (s .args .n) (tree (s .args .image .now)) (r .action-at .result) (c .match .keys2) in
-    does-as (s .args .image .now) (r .before .settle .ensures (s .args .image .now)) (λ q. rw (m .is, none .0, none .1, neither (s .args .way)))
+    turned-as (s .args .image .now) (s .args .press .coord) (decide-settled t (r .before)) (λ x q. rw (m .is, none .0, none .1, neither (s .args .way)))
 
 decide-do-action-requires : (t : ℕ) → decide-lts.Need-do-action-requires (decide-calls t) (decide-at t) decide.Post
 decide-do-action-requires t c κs =
-    let r = c .before .before .before .before .before in
+    let r = c .before .before .before .before .before .before in
     let s = r .before .before .before .before in
-    let m = hold-lower _ _ _ _ _ (decide-means t r (c .before .before .before .hold .given .1)) in
-    (omega (arith, m .1, s .pre .0), (s .pre .1 .0, r .before .settle .ensures (s .args .image .now) .tidy))
+    let m = hold-lower _ _ _ _ _ (decide-means t r (c .before .before .before .before .hold .given .1)) in
+    (omega (arith, m .1, s .pre .0), (s .pre .1 .0, decide-settled t (r .before) .roomy))
 
 decide-do-action-requires-2 : (t : ℕ) → decide-lts.Need-do-action-requires-2 (decide-calls t) (decide-at t) decide.Post
 decide-do-action-requires-2 t c κs =
-    let r = c .before .before .before .before .before in
+    let r = c .before .before .before .before .before .before in
     let s = r .before .before .before .before in
-    let m = hold-lower _ _ _ _ _ (decide-means t r (c .before .before .before .hold .given .1)) in
-    (omega (arith, m .0, s .pre .0), (s .pre .1 .0, r .before .settle .ensures (s .args .image .now) .tidy))
+    let m = hold-lower _ _ _ _ _ (decide-means t r (c .before .before .before .before .hold .given .1)) in
+    (omega (arith, m .0, s .pre .0), (s .pre .1 .0, decide-settled t (r .before) .roomy))
 
 decide-returns-2 : (t : ℕ) → decide-lts.Need-returns-2 (decide-calls t) (decide-at t) decide.Post
 unfolding decided meaning
 decide-returns-2 t c =
-    let r = c .before .before .before .before .before .before in
+    let r = c .before .before .before .before .before .before .before in
     let s = r .before .before .before .before in
-    let m = decide-means t r (c .before .before .before .before .hold .given .1) in
-    does-as (s .args .image .now) (does-then (s .args .image .now) (r .before .settle .ensures (s .args .image .now)) (c .do-action .ensures)) (λ q. rw (c .before .enum-told .given .1, m .is))
+    let m = decide-means t r (c .before .before .before .before .before .hold .given .1) in
+    turned-as (s .args .image .now) (s .args .press .coord) (turned-then (s .args .image .now) (s .args .press .coord) (decide-settled t (r .before)) (c .do-action .ensures)) (λ x q. rw (c .before .before .enum-told .given .1, m .is))
 
 decide-returns-3 : (t : ℕ) → decide-lts.Need-returns-3 (decide-calls t) (decide-at t) decide.Post
 unfolding decided meaning
 decide-returns-3 t c =
-    let r = c .before .before .before .before .before .before in
+    let r = c .before .before .before .before .before .before .before in
     let s = r .before .before .before .before in
-    let m = decide-means t r (c .before .before .before .before .hold .given .1) in
-    does-as (s .args .image .now) (does-then (s .args .image .now) (r .before .settle .ensures (s .args .image .now)) (c .do-action2 .ensures)) (λ q. rw (c .before .enum-told2 .given .1, m .is))
+    let m = decide-means t r (c .before .before .before .before .before .hold .given .1) in
+    turned-as (s .args .image .now) (s .args .press .coord) (turned-then (s .args .image .now) (s .args .press .coord) (decide-settled t (r .before)) (c .do-action2 .ensures)) (λ x q. rw (c .before .before .enum-told2 .given .1, m .is))
 
 do-action-push-key-requires : (t : ℕ) → do-action-lts.Need-push-key-requires (do-action-calls t) (do-action-at t) do-action.Post do-action-Inv-loop do-action-μ-loop
 do-action-push-key-requires t c κs =
-    (c .before .before .before .before .before .before .pre .1 .1, key-legal _ _ _ (do-means t (c .before .before .before) (c .before .code .given .1)))
+    let r = c .before .before .before .before in
+    (r .before .before .before .pre .1 .1, key-legal _ _ _ (do-means t r (c .before .before .code .given .1)))
 
 do-action-push-codes-requires : (t : ℕ) → do-action-lts.Need-push-codes-requires (do-action-calls t) (do-action-at t) do-action.Post do-action-Inv-loop do-action-μ-loop
 unfolding codesIn listEnd
 do-action-push-codes-requires t c κs =
-    let s = c .before .before .before .before .before .before in
-    let m = do-means t (c .before .before .before) (c .before .first .given .1) in
-    (s .pre .1 .1, m .codes, m .listed)
+    let r = c .before .before .before .before in
+    let m = do-means t r (c .before .before .first .given .1) in
+    (r .before .before .before .pre .1 .1, m .codes, m .listed)
 
 do-action-loop-holds : (t : ℕ) → do-action-lts.Need-loop-holds (do-action-calls t) (do-action-at t) do-action.Post do-action-Inv-loop do-action-μ-loop
 unfolding childrenIn
 do-action-loop-holds t c =
-    let s = c .before .before .before .before .before .before in
-    let m = do-means t (c .before .before .before) (c .before .first2 .given .1) in
-    (refl, m .lower, left-start (s .args .image .now) (s .args .run) _ (s .pre .1 .1))
+    let r = c .before .before .before in
+    let s = r .before .before .before in
+    let m = do-means t r (c .before .first2 .given .1) in
+    (refl, m .lower, left-start (s .args .image .now) (s .args .press .coord) (s .args .turn) _ _ (s .pre .1 .1))
 
 do-action-returns : (t : ℕ) → do-action-lts.Need-returns (do-action-calls t) (do-action-at t) do-action.Post do-action-Inv-loop do-action-μ-loop
 unfolding listEnd
@@ -180,79 +189,85 @@ do-action-returns t c =
 
 do-action-do-action-requires : (t : ℕ) → do-action-lts.Need-do-action-requires (do-action-calls t) (do-action-at t) do-action.Post do-action-Inv-loop do-action-μ-loop
 do-action-do-action-requires t c κs =
-    let b = c .before .before .before .before .before in
+    let e = c .before .before .before .before in
+    let b = e .before .before in
     let s = b .before .before .before .before .before .before .before in
     let img = s .args .image .now in
-    let h = entry-is img (b .loop .at) _ (sym (c .before .before .before .entry-at .ensures) ∙ c .before .k .given .1) in
-    let low = ltb-true _ (s .args .n) (all-head (λ k. ltb k (s .args .n)) img (b .loop .at) (b .loop .left) (c .before .before .before .before .loop-test .taken) (b .loop .inv .1)) in
-    (omega (arith, low, h .1, s .pre .0), (s .pre .1 .0, b .loop .inv .2 .tidy))
+    let h = entry-is img (b .loop .at) _ (sym (e .entry-at .ensures) ∙ c .before .before .k .given .1) in
+    let low = ltb-true _ (s .args .n) (all-head (λ k. ltb k (s .args .n)) img (b .loop .at) (b .loop .left) (e .before .loop-test .taken) (b .loop .inv .1)) in
+    (omega (arith, low, h .1, s .pre .0), (s .pre .1 .0, b .loop .inv .2 .roomy))
 
 do-action-loop-again : (t : ℕ) → do-action-lts.Need-loop-again (do-action-calls t) (do-action-at t) do-action.Post do-action-Inv-loop do-action-μ-loop
 unfolding doActions
 do-action-loop-again t c =
-    let b = c .before .before .before .before .before .before in
+    let e = c .before .before .before .before .before in
+    let b = e .before .before in
     let s = b .before .before .before .before .before .before .before in
     let img = s .args .image .now in
-    let some = c .before .before .before .before .before .loop-test .taken in
-    let h = entry-is img (b .loop .at) _ (sym (c .before .before .before .before .entry-at .ensures) ∙ c .before .before .k .given .1) in (
+    let some = e .before .loop-test .taken in
+    let h = entry-is img (b .loop .at) _ (sym (e .entry-at .ensures) ∙ c .before .before .before .k .given .1) in (
       omega (arith, b .loop .inv .0, some),
       all-tail (λ k. ltb k (s .args .n)) img (b .loop .at) (b .loop .left) some (b .loop .inv .1),
-      left-step img (rw (named-step (tree img) img (b .loop .at) (b .loop .left) some) at (b .loop .inv .2)) (c .do-action .ensures) (λ l. rw (h .1)),
+      left-step img (s .args .press .coord) (rw (named-step (tree img) img (b .loop .at) (b .loop .left) some) at (b .loop .inv .2)) (c .do-action .ensures) (λ l. rw (h .1)),
     )
+
+do-action-push-layer-requires : (t : ℕ) → do-action-lts.Need-push-layer-requires (do-action-calls t) (do-action-at t) do-action.Post do-action-Inv-loop do-action-μ-loop
+do-action-push-layer-requires t c κs = c .before .before .before .before .before .before .before .pre .1 .1
 
 do-action-decide-requires : (t : ℕ) → do-action-lts.Need-decide-requires (do-action-calls t) (do-action-at t) do-action.Post do-action-Inv-loop do-action-μ-loop
 do-action-decide-requires t c κs =
-    let s = c .before .before .before .before .before .before .before .before .before .before in
+    let s = c .before .before .before .before .before .before .before .before .before .before .before in
     (omega (arith, s .pre .0), (s .pre .1 .0, s .pre .1 .1))
 
 do-action-returns-2 : (t : ℕ) → do-action-lts.Need-returns-2 (do-action-calls t) (do-action-at t) do-action.Post do-action-Inv-loop do-action-μ-loop
 unfolding doAction meaning
 do-action-returns-2 t c =
     let r = c .before .before in
-    let img = r .before .before .before .args .image .now in
-    does-as img (does-nothing img _ (r .before .before .before .pre .1 .1)) (λ q. rw (do-means t r (c .enum-told .given .1) .is))
+    let s = r .before .before .before in
+    turned-as (s .args .image .now) (s .args .press .coord) (turned-nothing (s .args .image .now) (s .args .press .coord) _ _ (s .pre .1 .1)) (λ x q. rw (do-means t r (c .enum-told .given .1) .is))
 
 do-action-returns-3 : (t : ℕ) → do-action-lts.Need-returns-3 (do-action-calls t) (do-action-at t) do-action.Post do-action-Inv-loop do-action-μ-loop
 unfolding doAction meaning
 do-action-returns-3 t c =
     let r = c .before .before in
-    let img = r .before .before .before .args .image .now in
-    does-as img (does-nothing img _ (r .before .before .before .pre .1 .1)) (λ q. rw (do-means t r (c .enum-told2 .given .1) .is))
+    let s = r .before .before .before in
+    turned-as (s .args .image .now) (s .args .press .coord) (turned-nothing (s .args .image .now) (s .args .press .coord) _ _ (s .pre .1 .1)) (λ x q. rw (do-means t r (c .enum-told2 .given .1) .is))
 
 do-action-returns-4 : (t : ℕ) → do-action-lts.Need-returns-4 (do-action-calls t) (do-action-at t) do-action.Post do-action-Inv-loop do-action-μ-loop
 unfolding doAction meaning
 do-action-returns-4 t c =
-    let r = c .before .before .before .before in
-    let img = r .before .before .before .args .image .now in
-    does-as img (c .push-key .ensures img) (λ q. rw (do-means t r (c .before .before .code .given .1) .is))
+    let r = c .before .before .before .before .before in
+    let s = r .before .before .before in
+    turned-as (s .args .image .now) (s .args .press .coord) (c .push-key .ensures (s .args .image .now) (s .args .press .coord)) (λ x q. rw (do-means t r (c .before .before .before .code .given .1) .is))
 
 do-action-returns-5 : (t : ℕ) → do-action-lts.Need-returns-5 (do-action-calls t) (do-action-at t) do-action.Post do-action-Inv-loop do-action-μ-loop
 unfolding doAction meaning
 do-action-returns-5 t c =
-    let r = c .before .before .before .before in
-    let img = r .before .before .before .args .image .now in
-    does-as img (c .push-codes .ensures) (λ q. rw (do-means t r (c .before .before .first .given .1) .is))
+    let r = c .before .before .before .before .before in
+    let s = r .before .before .before in
+    turned-as (s .args .image .now) (s .args .press .coord) (c .push-codes .ensures (s .args .press .coord)) (λ x q. rw (do-means t r (c .before .before .before .first .given .1) .is))
 
 do-action-returns-6 : (t : ℕ) → do-action-lts.Need-returns-6 (do-action-calls t) (do-action-at t) do-action.Post do-action-Inv-loop do-action-μ-loop
 unfolding doAction doActions meaning
 do-action-returns-6 t c =
     let r = c .before .before .before .before .before in
-    let img = r .before .before .before .args .image .now in
-    does-as img (left-end img (rw (named-none (tree img) img (c .before .loop .at) (c .before .loop .left) (omega arith)) at (c .before .loop .inv .2)) (λ l. refl)) (λ q. rw (do-means t r (c .before .before .before .first2 .given .1) .is))
+    let s = r .before .before .before in
+    let img = s .args .image .now in
+    turned-as img (s .args .press .coord) (left-end img (s .args .press .coord) (rw (named-none (tree img) img (c .before .loop .at) (c .before .loop .left) (omega arith)) at (c .before .loop .inv .2)) (λ l. refl)) (λ x q. rw (do-means t r (c .before .before .before .first2 .given .1) .is))
 
 do-action-returns-7 : (t : ℕ) → do-action-lts.Need-returns-7 (do-action-calls t) (do-action-at t) do-action.Post do-action-Inv-loop do-action-μ-loop
 unfolding doAction meaning
 do-action-returns-7 t c =
-    let r = c .before .before .before .before in
-    let img = r .before .before .before .args .image .now in
-    does-as img (c .push-state .ensures img) (λ q. rw (do-means t r (c .before .before .value .given .1) .is))
+    let r = c .before .before .before .before .before in
+    let s = r .before .before .before in
+    turned-as (s .args .image .now) (s .args .press .coord) (c .push-layer .ensures (s .args .image .now) (s .args .press .coord)) (λ x q. rw (do-means t r (c .before .before .before .value .given .1) .is))
 
 do-action-returns-8 : (t : ℕ) → do-action-lts.Need-returns-8 (do-action-calls t) (do-action-at t) do-action.Post do-action-Inv-loop do-action-μ-loop
 unfolding doAction meaning
 do-action-returns-8 t c =
     let r = c .before .before .before .before in
-    let img = r .before .before .before .args .image .now in
-    does-as img (c .with-default .ensures img) (λ q. rw (do-means t r (c .before .before .value2 .given .1) .is))
+    let s = r .before .before .before in
+    turned-as (s .args .image .now) (s .args .press .coord) (c .with-default .ensures (s .args .image .now) (s .args .press .coord) _ (s .pre .1 .1)) (λ x q. rw (do-means t r (c .before .before .value2 .given .1) .is))
 
 do-action-returns-9 : (t : ℕ) → do-action-lts.Need-returns-9 (do-action-calls t) (do-action-at t) do-action.Post do-action-Inv-loop do-action-μ-loop
 unfolding doAction meaning verdict
@@ -260,20 +275,22 @@ do-action-returns-9 t c =
     let r = c .before .before .before .before .before .before .before in
     let s = r .before .before .before in
     let img = s .args .image .now in
+    let k = s .args .press .coord in
     let m = do-means t r (c .before .before .before .before .before .timeout .given .1) in
-    does-as img (does-begun img (s .args .press .coord) (c .wait-on .ensures img)) (λ q. rw (c .before .less .ensures, c .before .before .enum-told4 .given .1, m .is))
+    turned-as img k (turned-begun img k k (c .wait-on .ensures img k _ (s .pre .1 .1))) (λ x q. rw (c .before .less .ensures, c .before .before .enum-told4 .given .1, m .is))
 
 do-action-returns-10 : (t : ℕ) → do-action-lts.Need-returns-10 (do-action-calls t) (do-action-at t) do-action.Post do-action-Inv-loop do-action-μ-loop
 unfolding doAction meaning verdict
 do-action-returns-10 t c =
-    let r = c .before .before .before .before .before .before .before .before in
+    let r = c .before .before .before .before .before .before .before .before .before in
     let s = r .before .before .before in
     let img = s .args .image .now in
-    let m = do-means t r (c .before .before .before .before .before .before .timeout .given .1) in
-    does-as img (does-begun img (s .args .press .coord) (c .decide .ensures)) (λ q. rw (c .before .tie .ensures, c .before .before .before .found .given .1, m .is) (begins-now _ _ _ _ _ _ _ _))
+    let k = s .args .press .coord in
+    let m = do-means t r (c .before .before .before .before .before .before .before .timeout .given .1) in
+    turned-as img k (turned-begun img k k (c .decide .ensures)) (λ x q. rw (c .before .before .tie .ensures, c .before .before .before .before .found .given .1, m .is) (begins-now _ _ _ _ _ _ _ _))
 
 pub +decide+do-action-spec : {M : Type 1} → statement M
 +decide+do-action-spec =
     close μ-decide μ-do-action
     (λ t. decide-lts.spec (decide-calls t) (decide-at t) decide.Post (λ c κs. search needs) (λ c κs. search needs) (λ c. search needs) (decide-returns t) (λ c. search needs) (decide-do-action-requires t) (λ c. search needs) (decide-do-action-requires-2 t) (decide-returns-2 t) (decide-returns-3 t))
-    (λ t. do-action-lts.spec (do-action-calls t) (do-action-at t) do-action.Post do-action-Inv-loop do-action-μ-loop (λ c κs. search needs) (λ c. search needs) (λ c. search needs) (λ c. search needs) (do-action-push-key-requires t) (λ c. search needs) (do-action-push-codes-requires t) (λ c. search needs) (λ c. search needs) (do-action-loop-holds t) (λ c κs. search needs) (λ c. search needs) (λ c. search needs) (do-action-returns t) (do-action-do-action-requires t) (λ c. search needs) (λ c. search needs) (λ c. search needs) (do-action-loop-again t) (λ c. search needs) (λ c κs. search needs) (λ c. search needs) (λ c κs. search needs) (λ c. search needs) (λ c. search needs) (λ c κs. search needs) (λ c κs. search needs) (λ c. search needs) (λ c κs. search needs) (do-action-decide-requires t) (do-action-returns-2 t) (do-action-returns-3 t) (do-action-returns-4 t) (do-action-returns-5 t) (do-action-returns-6 t) (do-action-returns-7 t) (do-action-returns-8 t) (do-action-returns-9 t) (do-action-returns-10 t))
+    (λ t. do-action-lts.spec (do-action-calls t) (do-action-at t) do-action.Post do-action-Inv-loop do-action-μ-loop (λ c κs. search needs) (λ c. search needs) (λ c. search needs) (λ c. search needs) (do-action-push-key-requires t) (λ c. search needs) (do-action-push-codes-requires t) (λ c. search needs) (λ c. search needs) (do-action-loop-holds t) (λ c κs. search needs) (λ c. search needs) (λ c. search needs) (do-action-returns t) (do-action-do-action-requires t) (λ c. search needs) (λ c. search needs) (λ c. search needs) (do-action-loop-again t) (λ c. search needs) (do-action-push-layer-requires t) (λ c. search needs) (λ c κs. search needs) (λ c. search needs) (λ c. search needs) (λ c κs. search needs) (λ c κs. search needs) (λ c. search needs) (λ c κs. search needs) (do-action-decide-requires t) (do-action-returns-2 t) (do-action-returns-3 t) (do-action-returns-4 t) (do-action-returns-5 t) (do-action-returns-6 t) (do-action-returns-7 t) (do-action-returns-8 t) (do-action-returns-9 t) (do-action-returns-10 t))

@@ -1,6 +1,5 @@
 -- `layout::queue::is_release` meets its contract. Assumes nothing.
 use borrow.Author.Needs.{needs}
-use borrow.Author.Needs.{needs}
 use Rattle.layout.proofs.queue.is_release.Statement.{statement}
 use Rattle.layout.proofs.queue.is_release.Tie as tie
 

@@ -3,7 +3,6 @@ use Prim.Native.Nat.{ℕ}
 use mathlib.Core.Path.{ap}
 use native.Mathlib.Omega.{arith}
 use borrow.Author.Needs.{needs}
-use borrow.Author.Needs.{needs}
 use Rattle.layout.proofs.queue.one_older.Statement.{statement}
 use Rattle.layout.proofs.queue.one_older.Tie as tie
 

@@ -1,6 +1,5 @@
 -- `layout::run::note_decision` meets its contract. Assumes nothing.
 use borrow.Author.Needs.{needs}
-use borrow.Author.Needs.{needs}
 use Rattle.layout.proofs.run.note_decision.Statement.{statement}
 use Rattle.layout.proofs.run.note_decision.Tie as tie
 

@@ -22,11 +22,11 @@ use Rattle.layout.proofs.steps.ticked.Tie as tie
 returns : tie.Need-returns
 returns c =
     let w = c .before in
-    let o = w .before .before .before .before in
+    let o = w .before .before .before in
     let a = o .before .before in
     let s = a .before .before .before in
     let img = s .args .image .now in
-    went-waiting img (s .args .parts) _ (o .waiting .given .1) (w .wait-on .result) (a .age .result) (w .before .less .result) (w .before .less .ensures) (a .age .ensures .0) (a .age .ensures .1) (w .wait-on .ensures img) (c .if1 .taken)
+    went-waiting img (s .args .parts) _ (o .waiting .given .1) (w .with-waiting .result) (a .age .result) (w .before .less .result) (w .before .less .ensures) (a .age .ensures .0) (a .age .ensures .1) (w .with-waiting .ensures img) (c .if1 .taken)
 
 returns-2 : tie.Need-returns-2
 returns-2 c =
@@ -41,11 +41,11 @@ returns-2 c =
 returns-3 : tie.Need-returns-3
 returns-3 c =
     let w = c .before .before in
-    let o = w .before .before .before .before in
+    let o = w .before .before .before in
     let a = o .before .before in
     let s = a .before .before .before in
     let img = s .args .image .now in
-    went-up img (s .args .parts) _ (o .waiting .given .1) (w .wait-on .result) (a .age .result) (w .before .less .result) (w .before .less .ensures) (a .age .ensures .0) (a .age .ensures .1) (w .wait-on .ensures img) (c .waiting-into-hold .result) (c .before .if1 .left) (c .waiting-into-hold .ensures)
+    went-up img (s .args .parts) _ (o .waiting .given .1) (w .with-waiting .result) (a .age .result) (w .before .less .result) (w .before .less .ensures) (a .age .ensures .0) (a .age .ensures .1) (w .with-waiting .ensures img) (c .waiting-into-hold .result) (c .before .if1 .left) (c .waiting-into-hold .ensures)
 
 returns-4 : tie.Need-returns-4
 returns-4 c =
@@ -66,13 +66,12 @@ returns-4 c =
     (ap (λ (x : Stacked). act T (x .event) (x .since) (modelOf img (parts .run) (drop 1 q))) first
     ∙ sym (tick-some T l (ap (waitingOf img) (n .before .enum-told .given .1)) (omega (arith, ap length (a .age .ensures .1))) noStacked))
 
-wait-on-requires : tie.Need-wait-on-requires
-wait-on-requires c κs = c .before .before .before .before .before .before .before .before .pre .1 .tidy
-
 waiting-into-hold-requires : tie.Need-waiting-into-hold-requires
 waiting-into-hold-requires c κs =
-    let s = c .before .before .before .before .before .before .before .before .before .before in
-    (s .pre .0, c .before .wait-on .ensures [] .tidy, c .before .before .before .before .before .before .before .age .ensures .0, s .pre .2)
+    let w = c .before in
+    let a = w .before .before .before .before .before in
+    let s = a .before .before .before in
+    (s .pre .0, w .with-waiting .ensures [] .tidy, a .age .ensures .0, s .pre .2)
 
 pub ticked-spec : {M : Type 1} → statement M
 ticked-spec =
@@ -81,7 +80,7 @@ ticked-spec =
     (λ c κs. search needs)
     (λ c. search needs)
     (λ c κs. search needs)
-    wait-on-requires
+    (λ c κs. search needs)
     returns
     waiting-into-hold-requires
     (λ c. search needs)

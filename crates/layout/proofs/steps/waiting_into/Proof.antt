@@ -1,7 +1,8 @@
 -- `layout::steps::waiting_into` meets its contract. Assumes nothing.
-use mathlib.Core.Path.{sym, ap}
+use mathlib.Core.Path.{refl, sym, ap}
 use borrow.Author.Needs.{needs}
 use Rattle.layout.proofs.Runs.{does-nothing}
+use Rattle.layout.proofs.Turns.{turn-starts, turn-ends, does-turn}
 use Rattle.layout.proofs.Moves.{did-of, did-as}
 use Rattle.image.specs.Table.{tableOf}
 use Rattle.layout.specs.Steps.{into}
@@ -20,11 +21,27 @@ returns c =
 returns-2 : tie.Need-returns-2
 unfolding into
 returns-2 c =
-    let s = c .before .before .before .before .before .before .before in
+    let d = c .before .before in
+    let t = d .before .before in
+    let w = t .before .before .before .before in
+    let s = w .before .before .before in
     let img = s .args .image .now in
-    let l = modelOf img (s .args .run) (listIn (s .args .queue)) in
-    did-as img (did-of img (listIn (s .args .queue)) (c .decide .ensures))
-    (rw (c .before .find-release .ensures, s .pre .3) (sym (ap (λ (w : Waiting). into (s .args .way) (tableOf img) (waitingOf img w) l) (c .before .before .before .before .waiting .given .1))))
+    let q = listIn (s .args .queue) in
+    did-as img (did-of img q (does-turn img _ (s .args .run) (c .run-after .result) (t .turn-of .result) (d .decide .result) _ _ (s .pre .1) (t .turn-of .ensures) (d .decide .ensures) (c .run-after .ensures)))
+    (rw (t .before .find-release .ensures, s .pre .3) (sym (ap (λ (x : Waiting). into (s .args .way) (tableOf img) (waitingOf img x) (modelOf img (s .args .run) q)) (w .waiting .given .1))))
+
+decide-requires : tie.Need-decide-requires
+decide-requires c κs =
+    let t = c .before in
+    let s = t .before .before .before .before .before .before .before in
+    (s .pre .0, turn-starts (s .args .run) (t .turn-of .result) _ (s .pre .1) (t .turn-of .ensures) refl)
+
+run-after-requires : tie.Need-run-after-requires
+run-after-requires c κs =
+    let d = c .before in
+    let t = d .before .before in
+    let s = t .before .before .before .before .before .before .before in
+    turn-ends (s .args .image .now) _ (s .args .run) (t .turn-of .result) (d .decide .result) _ _ (s .pre .1) (t .turn-of .ensures) (d .decide .ensures)
 
 pub waiting-into-spec : {M : Type 1} → statement M
 waiting-into-spec =
@@ -35,4 +52,6 @@ waiting-into-spec =
     returns
     (λ c κs. search needs)
     (λ c κs. search needs)
+    decide-requires
+    run-after-requires
     returns-2)
