@@ -11,23 +11,23 @@ use Rattle.refusal.specs.declared.Refusal.{Refusal}
 use Rattle.image.specs.Words.{layersOf}
 use Rattle.image.specs.Check.{checkOf}
 use Rattle.image.specs.Sound.{Sound}
-use Rattle.image.specs.Table.{tableOf}
 use Rattle.image.specs.declared.words.Shape.{Shape}
 use Rattle.image.specs.declared.rules.Checked.{Checked}
 use Rattle.image.specs.declared.rules.Checked.the-variants as checked
 use Rattle.image.proofs.Accepted.{accepted}
-use Rattle.layout.specs.Model.{Model, Idle, Done, still}
-use Rattle.layout.specs.Steps.{codes, tick}
+use Rattle.layout.specs.Model.{Model, Done}
+use Rattle.layout.specs.Steps.{codes}
 use Rattle.layout.specs.Packed.{pad, laid, noSlot, noStacked, statesIn, waitingOf, waitingIn, noNotes, noted}
 use Rattle.layout.specs.Calls.{pack, unpack, stateGood, rule, judgedBy, judgedOf, answerOf, layoutAfter, answered, buffered}
-use Rattle.layout.specs.Parts.{partsOf, layoutOf, isIdle}
-use Rattle.layout.specs.Inside.{Fit, Went, layoutIn}
+use Rattle.layout.specs.Parts.{partsOf, layoutOf}
+use Rattle.layout.specs.Inside.{Parts, Fit, Went, layoutIn}
 use Rattle.layout.specs.declared.run.State.{State}
 use Rattle.layout.specs.declared.run.Slot.{Slot}
 use Rattle.layout.specs.declared.run.Notes.{Notes}
+use Rattle.layout.specs.declared.run.Run.{Run}
+use Rattle.layout.specs.declared.queue.Queue.{Queue}
 use Rattle.layout.specs.declared.run.Waiting.{Waiting}
 use Rattle.layout.specs.declared.run.Waiting.the-variants as waiting
-use Rattle.layout.specs.declared.steps.Parts.{Parts}
 use Rattle.layout.specs.declared.layout.Layout.{Layout}
 use Rattle.layout.specs.declared.layout.Judged.{Judged}
 use Rattle.layout.specs.declared.layout.Judged.the-variants as judged
@@ -36,7 +36,7 @@ use Rattle.layout.specs.declared.layout.Answer.the-variants as answer
 use Rattle.layout.specs.declared.layout.Answered.{Answered}
 use Rattle.layout.proofs.Runs.{held-length, list-length}
 use Rattle.layout.proofs.States.{legal, legal-fit}
-use Rattle.layout.proofs.Moves.{went-as, went-nothing, tick-idle}
+use Rattle.layout.proofs.Moves.{went-as}
 
 -- what a call that is not refused finds
 pub record Ready (img : List ℕ) (lay : Layout) (room n : ℕ) : Type 0 where
@@ -68,16 +68,26 @@ ready img lay room n e = fine-by (checkOf img) img lay room n refl e
 pub ready-fit : (img : List ℕ) (lay : Layout) (room n : ℕ) (parts : Parts) → Ready img lay room n → length (lay .states) ≡ 64 → length (lay .stacked) ≡ 16 → parts ≡ partsOf lay → Fit parts
 ready-fit img lay room n parts y e f p = subst Fit (sym p) (legal-fit img lay (legal img lay (y .state)) e f)
 
-idle-waits : (img : List ℕ) (w : Waiting) → isIdle w ≡ true → waitingOf img w ≡ Idle
-idle-waits img waiting.Nothing e = refl
-idle-waits img (waiting.On w) e = cc
+-- what a call that is not refused starts from: its table, its buffer, and its layout in two parts
+pub record Opened (img : List ℕ) (lay : Layout) (room n : ℕ) (run : Run) (queue : Queue) : Type 0 where
+  pub fine : judgedOf img lay room ≡ judged.Fine n
+  pub sound : Sound img
+  pub layers : n ≡ layersOf img
+  pub roomy : 64 ≤ room
+  pub fit : Fit (record { run = run; queue = queue })
+  pub start : record { run = run; queue = queue } ≡ partsOf lay
 
--- a tick of a layout at which nothing waits and nothing is queued leaves it as it is
-pub went-idle : (img : List ℕ) (lay : Layout) (start : Parts) → start ≡ partsOf lay → Fit start → isIdle (lay .waiting) ≡ true → lay .queued ≡ 0
-    → Went img start start (tick (tableOf img) (unpack img lay))
-went-idle img lay start p f idle none =
-    went-as img (went-nothing img start f)
-    (ap (λ (x : Parts). still (layoutIn img x)) p ∙ sym (tick-idle (tableOf img) (unpack img lay) (idle-waits img (lay .waiting) idle) (ap (λ (n : ℕ). take n (lay .stacked)) none)))
+module _ (img : List ℕ) (lay : Layout) (room : ℕ) (run : Run) (queue : Queue) (j : Judged) (er : run ≡ partsOf lay .run) (eq : queue ≡ partsOf lay .queue) (ej : j ≡ judgedOf img (layoutOf (record { run = run; queue = queue })) room) where
+  both-parts : _≡_ {A = Parts} (record { run = run; queue = queue }) (partsOf lay)
+  both-parts i = record { run = er i; queue = eq i }
+
+  pub judged-so : judgedOf img lay room ≡ j
+  judged-so = sym (ej ∙ ap (λ (x : Parts). judgedOf img (layoutOf x) room) both-parts)
+
+  pub opened : (n : ℕ) → length (lay .states) ≡ 64 → length (lay .stacked) ≡ 16 → j ≡ judged.Fine n → Opened img lay room n run queue
+  opened n e f g =
+      let y = ready img lay room n (judged-so ∙ g) in
+      record { fine = judged-so ∙ g; sound = y .sound; layers = y .layers; roomy = y .roomy; fit = ready-fit img lay room n (record { run = run; queue = queue }) y e f both-parts; start = both-parts }
 
 map-slots : (l : List Slot) → map (λ (s : State). record { state = s }) (map (λ (s : Slot). s .state) l) ≡ l
 map-slots [] = refl
@@ -117,3 +127,13 @@ call-done img j n start end done lay buffer after a e none w f g =
     let held : statesIn (end .run) ≡ done .layout .states = ap (λ (m : Model). m .states) (w .is) in
     let whole : layoutOf end ≡ pack (done .layout) = packed img end (record { tidy = w .tidy; lined = w .lined }) ∙ ap pack (w .is) in
     rw e (f ∙ (λ i. record { answer = answer.Done (length (codes (held i))) (told i); layout = whole i }), g ∙ ap (λ (s : List State). laid (codes s) buffer) held)
+
+-- such a call, by the step that its parts went
+pub call-went : (img : List ℕ) (lay : Layout) (room n : ℕ) (run : Run) (queue : Queue) (end : Parts) (step : Model → Done) (buffer after : List ℕ) (a : Answered)
+    → Opened img lay room n run queue → Went img (record { run = run; queue = queue }) end (step (layoutIn img (record { run = run; queue = queue })))
+    → a ≡ record { answer = answer.Done (length (codes (statesIn (end .run)))) (end .run .notes); layout = layoutOf end }
+    → after ≡ laid (codes (statesIn (end .run))) buffer
+    → (a ≡ answered (judgedOf img lay room) (step (unpack img lay)) lay) × (after ≡ buffered (judgedOf img lay room) (step (unpack img lay)) buffer)
+call-went img lay room n run queue end step buffer after a o w f g =
+    call-done img (judgedOf img lay room) n (record { run = run; queue = queue }) end (step (unpack img lay)) lay buffer after a (o .fine) (ap (λ (x : Parts). x .run .notes) (o .start))
+    (went-as img w (ap (λ (x : Parts). step (layoutIn img x)) (o .start))) f g

@@ -10,21 +10,24 @@ use lib.ListN.{length, drop, getD}
 use borrow.Author.Tests.{lt-ltb, le-ltb}
 use Rattle.event.specs.declared.Event.{Event}
 use Rattle.event.specs.declared.Coord.{Coord}
-use Rattle.image.specs.Tree.{Action}
+use Rattle.image.specs.Words.{layersOf}
+use Rattle.image.specs.Tree.{Action, tree}
 use Rattle.image.specs.Table.{Table, tableOf}
 use Rattle.layout.specs.Model.{Model, Waiting, Idle, Waits, Done, still, after, withWaiting, withQueue}
-use Rattle.layout.specs.Steps.{act, into, intoHold, intoTap, releases, released, overflow, appended, entered, older, tickWait, ticked, tick}
-use Rattle.layout.specs.Packed.{listIn, waitingOf, modelOf, noted}
-use Rattle.layout.specs.Inside.{Lined, Does, Did, Fit, Went, layoutIn}
+use Rattle.layout.specs.Actions.{find, decided}
+use Rattle.layout.specs.Steps.{act, into, intoHold, intoTap, releases, released, overflow, appended, entered, event, older, tickWait, ticked, tick}
+use Rattle.layout.specs.Packed.{listIn, holdOf, tapOf, waitingOf, modelOf, noted}
+use Rattle.layout.specs.Inside.{Parts, Tidy, Lined, Does, Did, Fit, Went, layoutIn}
 use Rattle.layout.specs.declared.run.WaitingState.{WaitingState}
+use Rattle.layout.specs.declared.run.Waiting.{Waiting as WaitingIn}
 use Rattle.layout.specs.declared.run.Waiting.the-variants as waiting
+use Rattle.layout.specs.declared.run.Way.{Way}
 use Rattle.layout.specs.declared.run.Way.the-variants.{Hold}
 use Rattle.layout.specs.declared.run.Notes.{Notes}
 use Rattle.layout.specs.declared.run.Run.{Run}
 use Rattle.layout.specs.declared.queue.Stacked.{Stacked}
 use Rattle.layout.specs.declared.queue.Queue.{Queue}
-use Rattle.layout.specs.declared.steps.Parts.{Parts}
-use Rattle.layout.proofs.Runs.{noted-append}
+use Rattle.layout.proofs.Runs.{noted-append, does-nothing}
 
 module _ (img : List ℕ) where
   pub did-of : {a b : Run} {f : Model → Done} (q : List Stacked) → Does img a b f → Did img a b q (f (modelOf img a q))
@@ -102,12 +105,6 @@ module _ (T : Table) (l : Model) where
       go [] h = refl
       go (s ∷ q) h = absurd (omega arith)
 
-  -- nothing waits and nothing is queued, so nothing happens
-  pub tick-idle : l .waiting ≡ Idle → l .queue ≡ [] → tick T l ≡ still l
-  unfolding tick ticked
-  tick-idle e z =
-      ap (λ (w : Waiting). ticked T w (older (l .queue)) l) e ∙ ap (λ (q : List Stacked). ticked T Idle (older q) l) z ∙ ap (λ (q : List Stacked). still (withQueue q l)) (sym z)
-
   pub tick-some : l .waiting ≡ Idle → 0 < length (older (l .queue)) → (d : Stacked)
       → tick T l ≡ act T (getD (older (l .queue)) 0 d .event) (getD (older (l .queue)) 0 d .since) (withQueue (drop 1 (older (l .queue))) l)
   unfolding tick ticked
@@ -125,27 +122,56 @@ module _ (T : Table) (l : Model) where
   wait-up zero h = refl
   wait-up (suc k) h = absurd (omega arith)
 
+module _ (img : List ℕ) (run : Run) (q : List Stacked) where
+  -- nothing waits, so nothing becomes hold or tap; and what waits is decided
+  pub into-none : (way : Way) → Tidy run → run .waiting ≡ waiting.Nothing → Did img run run q (into way (tableOf img) (waitingOf img (run .waiting)) (modelOf img run q))
+  unfolding into
+  into-none way t e =
+      did-as img (did-of img q (does-nothing img run t)) (sym (ap (λ (w : WaitingIn). into way (tableOf img) (waitingOf img w) (modelOf img run q)) e))
+
+  pub into-decided : (way : Way) (end : Run) (ws : WaitingState) (layers : ℕ) → waitingOf img (run .waiting) ≡ waitingOf img (waiting.On ws) → layers ≡ layersOf img
+      → Did img run end q (decided way (holdOf (tree img (ws .number))) (tapOf (tree img (ws .number))) layers (ws .coord) (find (ws .coord) q) (modelOf img run q))
+      → Did img run end q (into way (tableOf img) (waitingOf img (run .waiting)) (modelOf img run q))
+  unfolding into
+  into-decided way end ws layers e el d =
+      did-as img d (rw el (sym (ap (λ (w : Waiting). into way (tableOf img) w (modelOf img run q)) e)))
+
 -- a tick where something waits: it has a tick less, and becomes hold where none is left
-module _ (img : List ℕ) (parts : Parts) (ws : WaitingState) (e : parts .run .waiting ≡ waiting.On ws) (next : Run) (queue : Queue) (k : ℕ) (ek : k ≡ ws .left - 1)
-    (t : Lined queue) (eq : listIn queue ≡ older (listIn (parts .queue)))
-    (d : Does img (parts .run) next (λ l. still (withWaiting (waitingOf img (waiting.On (record { coord = ws .coord; left = k; number = ws .number }))) l))) where
+module _ (img : List ℕ) (run next : Run) (q : List Stacked) (ws : WaitingState) (k : ℕ) (ek : k ≡ ws .left - 1)
+    (d : Does img run next (λ l. still (withWaiting (waitingOf img (waiting.On (record { coord = ws .coord; left = k; number = ws .number }))) l))) where
   abbrev fewer : Waiting
   fewer = waitingOf img (waiting.On (record { coord = ws .coord; left = ws .left - 1; number = ws .number }))
 
-  fewer-does : Does img (parts .run) next (λ l. still (withWaiting fewer l))
-  fewer-does = subst (λ (x : ℕ). Does img (parts .run) next (λ l. still (withWaiting (waitingOf img (waiting.On (record { coord = ws .coord; left = x; number = ws .number }))) l))) ek d
+  fewer-does : Does img run next (λ l. still (withWaiting fewer l))
+  fewer-does = subst (λ (x : ℕ). Does img run next (λ l. still (withWaiting (waitingOf img (waiting.On (record { coord = ws .coord; left = x; number = ws .number }))) l))) ek d
 
-  tick-is : tick (tableOf img) (layoutIn img parts) ≡ tickWait (tableOf img) (ws .left - 1) (withWaiting fewer (withQueue (older (listIn (parts .queue))) (layoutIn img parts)))
-  tick-is = tick-on (tableOf img) (layoutIn img parts) (ws .coord) (ws .left) (ws .number) _ _ (ap (waitingOf img) e)
+  pub did-waiting : 0 < k → Did img run next q (tickWait (tableOf img) (ws .left - 1) (withWaiting fewer (modelOf img run q)))
+  did-waiting h = did-as img (did-of img q fewer-does) (sym (wait-on (tableOf img) _ (ws .left - 1) (omega arith)))
 
-  pub went-waiting : 0 < k → Went img parts (record { run = next; queue = queue }) (tick (tableOf img) (layoutIn img parts))
-  went-waiting h =
-      went-as img (went-did img parts next queue (older (listIn (parts .queue))) (λ (l : Model). still (withWaiting fewer l)) t eq (did-of img (listIn queue) fewer-does))
-      (sym (tick-is ∙ wait-on (tableOf img) _ (ws .left - 1) (omega arith)))
+  pub did-up : (end : Run) (layers : ℕ) → k ≤ 0 → layers ≡ layersOf img
+      → Did img next end q (decided Hold (holdOf (tree img (ws .number))) (tapOf (tree img (ws .number))) layers (ws .coord) (find (ws .coord) q) (modelOf img next q))
+      → Did img run end q (tickWait (tableOf img) (ws .left - 1) (withWaiting fewer (modelOf img run q)))
+  did-up end layers h el up =
+      let now : waitingOf img (next .waiting) ≡ fewer = ap (λ (m : Model). m .waiting) (fewer-does .ran q .is) in
+      did-as img
+      (did-then img (λ (x : Model). into Hold (tableOf img) (x .waiting) x) (did-of img q fewer-does) (into-decided img next q Hold end (record { coord = ws .coord; left = ws .left - 1; number = ws .number }) layers now el up))
+      (sym (wait-up (tableOf img) _ (ws .left - 1) (omega arith)))
 
-  pub went-up : (end : Run) → k ≤ 0 → Did img next end (listIn queue) (into Hold (tableOf img) (waitingOf img (next .waiting)) (modelOf img next (listIn queue)))
-      → Went img parts (record { run = end; queue = queue }) (tick (tableOf img) (layoutIn img parts))
-  went-up end h up =
-      went-as img (went-did img parts end queue (older (listIn (parts .queue))) (λ (l : Model). into Hold (tableOf img) fewer (withWaiting fewer l)) t eq
-      (did-then img (λ (x : Model). into Hold (tableOf img) (x .waiting) x) (did-of img (listIn queue) fewer-does) up))
-      (sym (tick-is ∙ wait-up (tableOf img) _ (ws .left - 1) (omega arith)))
+-- a tick of both parts, where something waits
+pub tick-goes : (img : List ℕ) (parts : Parts) (ws : WaitingState) (queue : Queue) (end : Run) → parts .run .waiting ≡ waiting.On ws → Lined queue → listIn queue ≡ older (listIn (parts .queue))
+    → Did img (parts .run) end (listIn queue) (tickWait (tableOf img) (ws .left - 1) (withWaiting (waitingOf img (waiting.On (record { coord = ws .coord; left = ws .left - 1; number = ws .number }))) (modelOf img (parts .run) (listIn queue))))
+    → Went img parts (record { run = end; queue = queue }) (tick (tableOf img) (layoutIn img parts))
+tick-goes img parts ws queue end e t eq d =
+    let fewer : Waiting = waitingOf img (waiting.On (record { coord = ws .coord; left = ws .left - 1; number = ws .number })) in
+    went-as img (went-did img parts end queue (older (listIn (parts .queue))) (λ (l : Model). tickWait (tableOf img) (ws .left - 1) (withWaiting fewer l)) t eq d)
+    (sym (tick-on (tableOf img) (layoutIn img parts) (ws .coord) (ws .left) (ws .number) _ _ (ap (waitingOf img) e)))
+
+-- an event of both parts: it is entered by a step, and then what waits for its release becomes tap
+pub event-goes : (img : List ℕ) (parts : Parts) (e : Event) (queue : Queue) (end : Run) (l : List Stacked) (enter : Model → Done) → Lined queue → listIn queue ≡ l
+    → entered (tableOf img) e (listIn (parts .queue)) (layoutIn img parts) ≡ enter (withQueue l (layoutIn img parts))
+    → Did img (parts .run) end (listIn queue) (let r = enter (modelOf img (parts .run) (listIn queue)) in after r (released (tableOf img) e (r .layout)))
+    → Went img parts (record { run = end; queue = queue }) (event (tableOf img) e (layoutIn img parts))
+unfolding event
+event-goes img parts e queue end l enter t el eq d =
+    went-as img (went-did img parts end queue l (λ (m : Model). after (enter m) (released (tableOf img) e (enter m .layout))) t el d)
+    (sym (ap (λ (r : Done). after r (released (tableOf img) e (r .layout))) eq))

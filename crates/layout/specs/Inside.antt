@@ -9,7 +9,6 @@ use Rattle.layout.specs.Packed.{pad, noSlot, noStacked, listIn, modelOf,
 use Rattle.layout.specs.declared.run.Run.{Run}
 use Rattle.layout.specs.declared.queue.Stacked.{Stacked}
 use Rattle.layout.specs.declared.queue.Queue.{Queue}
-use Rattle.layout.specs.declared.steps.Parts.{Parts}
 
 -- the count is within the array, and the unused places are zero
 pub record Tidy (run : Run) : Type 0 where
@@ -34,6 +33,11 @@ pub record Does (img : List ℕ) (start end : Run) (step : Model → Done) : Typ
 pub record Did (img : List ℕ) (start end : Run) (q : List Stacked) (done : Done) : Type 0 where
   pub tidy : Tidy end
   pub ran : Ran img start end q done
+
+-- a layout in two parts: what running actions changes, and the queue
+pub record Parts : Type 0 where
+  pub run : Run
+  pub queue : Queue
 
 -- the layout that the two parts stand for
 abbrev pub layoutIn : List ℕ → Parts → Model

@@ -3,7 +3,7 @@ pub mod Actions
 pub mod Steps
 pub mod Packed
 pub mod Calls
-pub mod Parts
 pub mod Reach
 pub mod Inside
+pub mod Parts
 pub mod Turns

@@ -1,11 +1,8 @@
 -- What the private functions of the calls answer, in the words of the public definitions. Assumes nothing.
-use mathlib.Core.Bool.{Bool, true, false}
 use Rattle.image.specs.declared.rules.Checked.{Checked}
 use Rattle.image.specs.declared.rules.Checked.the-variants as checked
 use Rattle.layout.specs.Packed.{noNotes}
-use Rattle.layout.specs.declared.run.Waiting.{Waiting}
-use Rattle.layout.specs.declared.run.Waiting.the-variants as waiting
-use Rattle.layout.specs.declared.steps.Parts.{Parts}
+use Rattle.layout.specs.Inside.{Parts}
 use Rattle.layout.specs.declared.layout.Layout.{Layout}
 use Rattle.layout.specs.declared.layout.Judged.{Judged}
 use Rattle.layout.specs.declared.layout.Judged.the-variants as judged
@@ -30,11 +27,6 @@ layoutOf parts =
       stacked = parts .queue .stacked;
       queued = parts .queue .queued;
     }
-
--- nothing waits
-abbrev pub isIdle : Waiting → Bool
-isIdle waiting.Nothing = true
-isIdle (waiting.On w) = false
 
 -- the image check's answer, and the answer of a call that did nothing yet
 abbrev pub judgedAs : Checked → Judged

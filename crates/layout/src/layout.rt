@@ -2,6 +2,9 @@
 // Assumes nothing.
 use super::queue::Queue;
 use super::queue::Stacked;
+use super::queue::age;
+use super::queue::append;
+use super::queue::shift;
 use super::run::Acted;
 use super::run::Decision;
 use super::run::Notes;
@@ -9,11 +12,12 @@ use super::run::Run;
 use super::run::Slot;
 use super::run::State;
 use super::run::Waiting;
-use super::run::write_codes;
 use super::state::state_good;
-use super::steps::Parts;
-use super::steps::evented;
-use super::steps::ticked;
+use super::steps::overflow;
+use super::steps::releases_waiting;
+use super::steps::tap_released;
+use super::steps::tick_waiting;
+use super::steps::unstack;
 use event::Coord;
 use event::Event;
 use image::Checked;
@@ -27,8 +31,8 @@ ghost use Rattle.layout.specs.Model.{fresh, still};
 ghost use Rattle.layout.specs.Steps.{codes as codesOf, event as eventOf, tick as tickOf};
 ghost use Rattle.layout.specs.Packed.{laid, statesIn};
 ghost use Rattle.layout.specs.Calls.{pack, unpack, judgedOf, answerOf, answered, buffered, toldOf};
-ghost use Rattle.layout.specs.Parts.{partsOf, layoutOf, judgedAs, refusedAs, isIdle};
-ghost use Rattle.layout.specs.Inside.{Fit};
+ghost use Rattle.layout.specs.Parts.{partsOf, layoutOf, judgedAs, refusedAs};
+ghost use Rattle.layout.specs.Inside.{Tidy};
 
 // The default layer, the states held, what waits, and the queued events, the oldest first. Places past a count are zero.
 pub struct Layout {
@@ -86,14 +90,14 @@ fn judged_as(checked: Checked) -> Judged
 }
 
 // The image's own refusals, then State, then Room.
-fn judge(image: &[u8], layout: Layout, room: usize) -> Judged
-    ensures { λ r. ⌜ r ≡ judgedOf (now (image .entry)) layout room ⌝ }
+fn judge(image: &[u8], run: Run, queue: Queue, room: usize) -> Judged
+    ensures { λ r. ⌜ r ≡ judgedOf (now (image .entry)) (layoutOf (record { run = run; queue = queue })) room ⌝ }
 {
     let checked = check(image);
     let Checked::Accepted(shape) = checked else {
         return judged_as(checked);
     };
-    if !state_good(image, shape.layers, layout) {
+    if !state_good(image, shape.layers, run, queue) {
         return Judged::Refused(Refusal::State, 0);
     }
     if room < Layout::STATES {
@@ -112,32 +116,34 @@ fn refused_as(judged: Judged) -> Answer
     }
 }
 
-fn parts_of(layout: Layout) -> Parts
-    ensures { λ r. ⌜ r ≡ partsOf layout ⌝ }
+// A layout in two parts: what running actions changes, with nothing done yet, and the queue.
+fn run_of(layout: Layout) -> Run
+    ensures { λ r. ⌜ r ≡ partsOf layout .run ⌝ }
 {
     let states = layout.states;
     let waiting = layout.waiting;
-    let stacked = layout.stacked;
-    Parts {
-        run: Run {
-            default_layer: layout.default_layer,
-            states,
-            len: layout.len,
-            waiting,
-            notes: no_notes(),
-        },
-        queue: Queue {
-            stacked,
-            queued: layout.queued,
-        },
+    Run {
+        default_layer: layout.default_layer,
+        states,
+        len: layout.len,
+        waiting,
+        notes: no_notes(),
     }
 }
 
-fn layout_of(parts: Parts) -> Layout
-    ensures { λ r. ⌜ r ≡ layoutOf parts ⌝ }
+fn queue_of(layout: Layout) -> Queue
+    ensures { λ r. ⌜ r ≡ partsOf layout .queue ⌝ }
 {
-    let run = parts.run;
-    let queue = parts.queue;
+    let stacked = layout.stacked;
+    Queue {
+        stacked,
+        queued: layout.queued,
+    }
+}
+
+fn layout_of(run: Run, queue: Queue) -> Layout
+    ensures { λ r. ⌜ r ≡ layoutOf (record { run = run; queue = queue }) ⌝ }
+{
     let states = run.states;
     let waiting = run.waiting;
     let stacked = queue.stacked;
@@ -151,27 +157,30 @@ fn layout_of(parts: Parts) -> Layout
     }
 }
 
-// The answer of a call that was not refused: its codes go into the buffer.
-fn answer_of(parts: Parts, out: &mut [u8]) -> Answered
-    requires { ⌜ Fit parts × (64 ≤ length (now out)) ⌝ }
-    ensures { λ r. ⌜ (r ≡ record { answer = Answer.Done (length (codesOf (statesIn (parts .run)))) (parts .run .notes); layout = layoutOf parts }) × (now (out .exit) ≡ laid (codesOf (statesIn (parts .run))) (now (out .entry))) ⌝ }
+// The answer of a call that was not refused: the key codes in state order go to the start of the buffer.
+fn answer_of(run: Run, queue: Queue, out: &mut [u8]) -> Answered
+    requires { ⌜ Tidy run × (64 ≤ length (now out)) ⌝ }
+    ensures { λ r. ⌜ (r ≡ record { answer = Answer.Done (length (codesOf (statesIn run))) (run .notes); layout = layoutOf (record { run = run; queue = queue }) }) × (now (out .exit) ≡ laid (codesOf (statesIn run)) (now (out .entry))) ⌝ }
 {
-    let run = parts.run;
-    let notes = run.notes;
-    let count = write_codes(run, out);
-    Answered {
-        answer: Answer::Done(count, notes),
-        layout: layout_of(parts),
+    let n = run.len;
+    let mut i: usize = 0;
+    let mut k: usize = 0;
+    while i < n {
+        let slot = run.states[i];
+        let state = slot.state;
+        match state {
+            State::NormalKey { keycode, coord: _ } => {
+                out[k] = keycode;
+                k += 1;
+            }
+            State::LayerModifier { value: _, coord: _ } => {}
+        }
+        i += 1;
     }
-}
-
-// Whether nothing waits.
-fn is_idle(waiting: Waiting) -> bool
-    ensures { λ r. ⌜ r ≡ isIdle waiting ⌝ }
-{
-    match waiting {
-        Waiting::Nothing => true,
-        Waiting::On(_) => false,
+    let notes = run.notes;
+    Answered {
+        answer: Answer::Done(k, notes),
+        layout: layout_of(run, queue),
     }
 }
 
@@ -230,43 +239,66 @@ impl Layout {
     pub fn event(self, image: &[u8], event: Event, out: &mut [u8]) -> Answered
         ensures { λ r. ⌜ (r ≡ answered (judgedOf (now (image .entry)) self (length (now (out .entry)))) (eventOf (tableOf (now (image .entry))) event (unpack (now (image .entry)) self)) self) × (now (out .exit) ≡ buffered (judgedOf (now (image .entry)) self (length (now (out .entry)))) (eventOf (tableOf (now (image .entry))) event (unpack (now (image .entry)) self)) (now (out .entry))) ⌝ }
     {
-        let judged = judge(image, self, out.len());
+        let run = run_of(self);
+        let queue = queue_of(self);
+        let judged = judge(image, run, queue, out.len());
         let Judged::Fine(layers) = judged else {
             return Answered {
                 answer: refused_as(judged),
                 layout: self,
             };
         };
-        answer_of(evented(image, layers, parts_of(self), event), out)
+        let waiting = run.waiting;
+        if queue.queued < Layout::QUEUE {
+            let longer = append(queue, event);
+            if !releases_waiting(waiting, event) {
+                return answer_of(run, longer, out);
+            }
+            return answer_of(tap_released(image, layers, run, longer, event), longer, out);
+        }
+        let oldest = queue.stacked[0];
+        let rest = append(shift(queue), event);
+        let next = overflow(image, layers, run, rest, oldest);
+        answer_of(tap_released(image, layers, next, rest, event), rest, out)
     }
 
     // One tick of the clock, a millisecond on the panel.
     pub fn tick(self, image: &[u8], out: &mut [u8]) -> Answered
         ensures { λ r. ⌜ (r ≡ answered (judgedOf (now (image .entry)) self (length (now (out .entry)))) (tickOf (tableOf (now (image .entry))) (unpack (now (image .entry)) self)) self) × (now (out .exit) ≡ buffered (judgedOf (now (image .entry)) self (length (now (out .entry)))) (tickOf (tableOf (now (image .entry))) (unpack (now (image .entry)) self)) (now (out .entry))) ⌝ }
     {
-        let judged = judge(image, self, out.len());
+        let run = run_of(self);
+        let queue = queue_of(self);
+        let judged = judge(image, run, queue, out.len());
         let Judged::Fine(layers) = judged else {
             return Answered {
                 answer: refused_as(judged),
                 layout: self,
             };
         };
-        let waiting = self.waiting;
-        if self.queued == 0 && is_idle(waiting) {
-            return answer_of(parts_of(self), out);
-        }
-        answer_of(ticked(image, layers, parts_of(self)), out)
+        let older = age(queue);
+        let waiting = run.waiting;
+        let Waiting::On(w) = waiting else {
+            if older.queued == 0 {
+                return answer_of(run, older, out);
+            }
+            let oldest = older.stacked[0];
+            let rest = shift(older);
+            return answer_of(unstack(image, layers, run, rest, oldest), rest, out);
+        };
+        answer_of(tick_waiting(image, layers, run, older, w), older, out)
     }
 
     // The key codes of the layout as it stands.
     pub fn keycodes(self, image: &[u8], out: &mut [u8]) -> Answer
         ensures { λ r. ⌜ (r ≡ answerOf (judgedOf (now (image .entry)) self (length (now (out .entry)))) (still (unpack (now (image .entry)) self))) × (now (out .exit) ≡ buffered (judgedOf (now (image .entry)) self (length (now (out .entry)))) (still (unpack (now (image .entry)) self)) (now (out .entry))) ⌝ }
     {
-        let judged = judge(image, self, out.len());
+        let run = run_of(self);
+        let queue = queue_of(self);
+        let judged = judge(image, run, queue, out.len());
         let Judged::Fine(_) = judged else {
             return refused_as(judged);
         };
-        let answered = answer_of(parts_of(self), out);
+        let answered = answer_of(run, queue, out);
         answered.answer
     }
 }

@@ -5,12 +5,11 @@ use super::layout::Layout;
 use event::Coord;
 use event::Event;
 ghost use mathlib.Core.Path.{_≡_};
-ghost use Prim.Native.Nat.{ℕ, _≤_};
+ghost use Prim.Native.Nat.{ℕ};
 ghost use mathlib.Core.List.{List};
-ghost use lib.ListN.{length};
 ghost use Rattle.layout.specs.Model.{same, still, withStates, withWaiting};
-ghost use Rattle.layout.specs.Steps.{coordIn, release as releaseOf, current, held, codes};
-ghost use Rattle.layout.specs.Packed.{statesIn, waitingOf, noteDecision, laid};
+ghost use Rattle.layout.specs.Steps.{coordIn, release as releaseOf, current, held};
+ghost use Rattle.layout.specs.Packed.{statesIn, waitingOf, noteDecision};
 ghost use Rattle.layout.specs.Inside.{Tidy, Does};
 
 // What a key that is down does: it holds a code, or a layer.
@@ -179,27 +178,4 @@ pub(crate) fn current_layer(run: Run) -> usize
         return sum;
     }
     run.default_layer
-}
-
-// The key codes in state order, from the start of the buffer on; and how many.
-pub(crate) fn write_codes(run: Run, out: &mut [u8]) -> usize
-    requires { ⌜ Tidy run × (64 ≤ length (now out)) ⌝ }
-    ensures { λ r. ⌜ (r ≡ length (codes (statesIn run))) × (now (out .exit) ≡ laid (codes (statesIn run)) (now (out .entry))) ⌝ }
-{
-    let n = run.len;
-    let mut i: usize = 0;
-    let mut k: usize = 0;
-    while i < n {
-        let slot = run.states[i];
-        let state = slot.state;
-        match state {
-            State::NormalKey { keycode, coord: _ } => {
-                out[k] = keycode;
-                k += 1;
-            }
-            State::LayerModifier { value: _, coord: _ } => {}
-        }
-        i += 1;
-    }
-    k
 }

@@ -1,7 +1,9 @@
 // The State check of a layout: document 01, "Refusal numbers", 13.
 // Assumes nothing.
 use super::layout::Layout;
+use super::queue::Queue;
 use super::queue::Stacked;
+use super::run::Run;
 use super::run::State;
 use super::run::Waiting;
 use super::run::is_same;
@@ -17,6 +19,7 @@ ghost use Rattle.lists.specs.Lists.{every};
 ghost use Rattle.image.specs.Words.{layersOf};
 ghost use Rattle.image.specs.Sound.{Sound};
 ghost use Rattle.layout.specs.Calls.{legalState, legalSlot, falling, waitingGood, unusedState, unusedSlot, unusedStacked, stateGood};
+ghost use Rattle.layout.specs.Parts.{layoutOf};
 
 fn is_legal_state(state: State) -> bool
     ensures { λ r. ⌜ r ≡ legalState state ⌝ }
@@ -54,14 +57,14 @@ fn is_unused_event(stacked: Stacked) -> bool
     }
 }
 
-fn states_legal(layout: Layout) -> bool
-    requires { ⌜ layout .len ≤ 64 ⌝ }
-    ensures { λ r. ⌜ r ≡ every legalSlot (take (layout .len) (layout .states)) ⌝ }
+fn states_legal(run: Run) -> bool
+    requires { ⌜ run .len ≤ 64 ⌝ }
+    ensures { λ r. ⌜ r ≡ every legalSlot (take (run .len) (run .states)) ⌝ }
 {
-    let n = layout.len;
+    let n = run.len;
     let mut i: usize = 0;
     while i < n {
-        let slot = layout.states[i];
+        let slot = run.states[i];
         let state = slot.state;
         if !is_legal_state(state) {
             return false;
@@ -71,12 +74,12 @@ fn states_legal(layout: Layout) -> bool
     true
 }
 
-fn states_unused(layout: Layout) -> bool
-    ensures { λ r. ⌜ r ≡ every unusedSlot (drop (layout .len) (layout .states)) ⌝ }
+fn states_unused(run: Run) -> bool
+    ensures { λ r. ⌜ r ≡ every unusedSlot (drop (run .len) (run .states)) ⌝ }
 {
-    let mut i = layout.len;
+    let mut i = run.len;
     while i < Layout::STATES {
-        let slot = layout.states[i];
+        let slot = run.states[i];
         let state = slot.state;
         if !is_unused_state(state) {
             return false;
@@ -87,15 +90,15 @@ fn states_unused(layout: Layout) -> bool
 }
 
 // No queued age is above the one in front of it.
-fn ages_fall(layout: Layout) -> bool
-    requires { ⌜ layout .queued ≤ 16 ⌝ }
-    ensures { λ r. ⌜ r ≡ falling (take (layout .queued) (layout .stacked)) ⌝ }
+fn ages_fall(queue: Queue) -> bool
+    requires { ⌜ queue .queued ≤ 16 ⌝ }
+    ensures { λ r. ⌜ r ≡ falling (take (queue .queued) (queue .stacked)) ⌝ }
 {
-    let n = layout.queued;
+    let n = queue.queued;
     let mut i: usize = 0;
     while i + 1 < n {
-        let front = layout.stacked[i];
-        let next = layout.stacked[i + 1];
+        let front = queue.stacked[i];
+        let next = queue.stacked[i + 1];
         if front.since < next.since {
             return false;
         }
@@ -104,12 +107,12 @@ fn ages_fall(layout: Layout) -> bool
     true
 }
 
-fn events_unused(layout: Layout) -> bool
-    ensures { λ r. ⌜ r ≡ every unusedStacked (drop (layout .queued) (layout .stacked)) ⌝ }
+fn events_unused(queue: Queue) -> bool
+    ensures { λ r. ⌜ r ≡ every unusedStacked (drop (queue .queued) (queue .stacked)) ⌝ }
 {
-    let mut i = layout.queued;
+    let mut i = queue.queued;
     while i < Layout::QUEUE {
-        let stacked = layout.stacked[i];
+        let stacked = queue.stacked[i];
         if !is_unused_event(stacked) {
             return false;
         }
@@ -132,29 +135,29 @@ fn waiting_good(image: &[u8], waiting: Waiting) -> bool
     w.left <= timeout
 }
 
-// Whether no part of the layout breaks its rule, under an accepted image of so many layers.
-pub(crate) fn state_good(image: &[u8], layers: usize, layout: Layout) -> bool
+// Whether no part of a layout breaks its rule, under an accepted image of so many layers.
+pub(crate) fn state_good(image: &[u8], layers: usize, run: Run, queue: Queue) -> bool
     requires { ⌜ Sound (now image) × (layers ≡ layersOf (now image)) ⌝ }
-    ensures { λ r. ⌜ r ≡ stateGood (now (image .entry)) layout ⌝ }
+    ensures { λ r. ⌜ r ≡ stateGood (now (image .entry)) (layoutOf (record { run = run; queue = queue })) ⌝ }
 {
-    if Layout::STATES < layout.len {
+    if Layout::STATES < run.len {
         return false;
     }
-    if Layout::QUEUE < layout.queued {
+    if Layout::QUEUE < queue.queued {
         return false;
     }
-    if !states_legal(layout) {
+    if !states_legal(run) {
         return false;
     }
-    if layers <= layout.default_layer {
+    if layers <= run.default_layer {
         return false;
     }
-    if !ages_fall(layout) {
+    if !ages_fall(queue) {
         return false;
     }
-    let waiting = layout.waiting;
+    let waiting = run.waiting;
     if !waiting_good(image, waiting) {
         return false;
     }
-    states_unused(layout) && events_unused(layout)
+    states_unused(run) && events_unused(queue)
 }

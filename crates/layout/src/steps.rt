@@ -1,4 +1,4 @@
-// The steps of a layout: acting on an event, what waits becoming hold or tap, an event entered, a tick. Document 01, Layout.
+// The steps of a layout that change its states: acting on an event, what waits becoming hold or tap. Document 01, Layout.
 // Assumes nothing.
 use super::action::Press;
 use super::action::decide;
@@ -7,19 +7,18 @@ use super::action::less;
 use super::layout::Layout;
 use super::queue::Queue;
 use super::queue::Stacked;
-use super::queue::age;
-use super::queue::append;
 use super::queue::find_release;
 use super::queue::is_release;
-use super::queue::shift;
 use super::run::Acted;
 use super::run::Notes;
 use super::run::Run;
 use super::run::Waiting;
+use super::run::WaitingState;
 use super::run::Way;
 use super::run::current_layer;
 use super::run::release;
 use super::run::with_waiting;
+use super::turn::Turn;
 use super::turn::run_after;
 use super::turn::turn_of;
 use event::Coord;
@@ -29,23 +28,20 @@ use image::Cell;
 use image::action_at;
 use image::cell_at;
 ghost use mathlib.Core.Path.{_≡_};
-ghost use Prim.Native.Nat.{ℕ};
+ghost use Prim.Native.Nat.{ℕ, _-_};
 ghost use mathlib.Core.List.{List};
 ghost use Rattle.image.specs.Words.{layersOf};
 ghost use Rattle.image.specs.Sound.{Sound};
+ghost use Rattle.image.specs.Tree.{tree};
 ghost use Rattle.image.specs.Table.{treeIn, tableOf};
 ghost use Rattle.layout.specs.Model as Model;
-ghost use Rattle.layout.specs.Model.{still, marked};
-ghost use Rattle.layout.specs.Steps.{pressed, act, into, releases, released as releasedOf, entered, event as eventOf, tick as tickOf};
-ghost use Rattle.layout.specs.Packed.{listIn, waitingOf, modelOf};
-ghost use Rattle.layout.specs.Inside.{Tidy, Lined, Does, Did, Fit, Went, layoutIn};
+ghost use Rattle.layout.specs.Model.{still, marked, withWaiting};
+ghost use Rattle.layout.specs.Actions.{find, decided};
+ghost use Rattle.layout.specs.Steps.{pressed, act, releases, released as releasedOf, overflow as overflowOf, tickWait};
+ghost use Rattle.layout.specs.Packed.{listIn, waitingOf, holdOf, tapOf, modelOf};
+ghost use Rattle.layout.specs.Inside.{Tidy, Lined, Does, Did};
+ghost use Rattle.layout.specs.Turns.{Roomy, Turned};
 ghost use Rattle.layout.specs.declared.queue.Stacked.{Stacked as Queued};
-
-// A layout in two parts: what running actions changes, and the queue.
-pub struct Parts {
-    pub run: Run,
-    pub queue: Queue,
-}
 
 // An event is acted on: that it is, noted.
 fn note_acted(run: Run, event: Event) -> Run
@@ -87,7 +83,7 @@ fn press_as_action(image: &[u8], run: Run, coord: Coord) -> Cell
 }
 
 // An event that left the queue is acted on, with its age.
-fn unstack(image: &[u8], layers: usize, run: Run, queue: Queue, stacked: Stacked) -> Run
+pub(crate) fn unstack(image: &[u8], layers: usize, run: Run, queue: Queue, stacked: Stacked) -> Run
     requires { ⌜ Sound (now image) × Tidy run × Lined queue × (layers ≡ layersOf (now image)) ⌝ }
     ensures { λ r. ⌜ Did (now (image .entry)) run r (listIn queue) (act (tableOf (now (image .entry))) (stacked .event) (stacked .since) (modelOf (now (image .entry)) run (listIn queue))) ⌝ }
 {
@@ -116,14 +112,18 @@ fn unstack(image: &[u8], layers: usize, run: Run, queue: Queue, stacked: Stacked
 }
 
 // What waits becomes tap or hold.
-fn waiting_into(image: &[u8], layers: usize, run: Run, queue: Queue, way: Way) -> Run
-    requires { ⌜ Sound (now image) × Tidy run × Lined queue × (layers ≡ layersOf (now image)) ⌝ }
-    ensures { λ r. ⌜ Did (now (image .entry)) run r (listIn queue) (into way (tableOf (now (image .entry))) (waitingOf (now (image .entry)) (run .waiting)) (modelOf (now (image .entry)) run (listIn queue))) ⌝ }
+fn waiting_into(
+    image: &[u8],
+    layers: usize,
+    turn: Turn,
+    queue: Queue,
+    w: WaitingState,
+    way: Way,
+    added: &mut [u32; Layout::STATES],
+) -> Turn
+    requires { ⌜ Sound (now image) × Roomy turn (now added) × Lined queue ⌝ }
+    ensures { λ r. ⌜ Turned (now (image .entry)) (w .coord) turn r (now (added .entry)) (now (added .exit)) (decided way (holdOf (tree (now (image .entry)) (w .number))) (tapOf (tree (now (image .entry)) (w .number))) layers (w .coord) (find (w .coord) (listIn queue))) ⌝ }
 {
-    let waiting = run.waiting;
-    let Waiting::On(w) = waiting else {
-        return run;
-    };
     let coord = w.coord;
     let number = w.number;
     let found = find_release(queue, coord);
@@ -133,70 +133,60 @@ fn waiting_into(image: &[u8], layers: usize, run: Run, queue: Queue, way: Way) -
         delay: 0,
         found,
     };
-    let mut added = [0u32; Layout::STATES];
-    let turn = decide(image, turn_of(run), number, press, way, &mut added);
-    run_after(run, turn, &added, coord)
+    decide(image, turn, number, press, way, added)
 }
 
-fn waiting_into_hold(image: &[u8], layers: usize, run: Run, queue: Queue) -> Run
+fn waiting_into_hold(
+    image: &[u8],
+    layers: usize,
+    turn: Turn,
+    queue: Queue,
+    w: WaitingState,
+    added: &mut [u32; Layout::STATES],
+) -> Turn
+    requires { ⌜ Sound (now image) × Roomy turn (now added) × Lined queue ⌝ }
+    ensures { λ r. ⌜ Turned (now (image .entry)) (w .coord) turn r (now (added .entry)) (now (added .exit)) (decided Way.Hold (holdOf (tree (now (image .entry)) (w .number))) (tapOf (tree (now (image .entry)) (w .number))) layers (w .coord) (find (w .coord) (listIn queue))) ⌝ }
+{
+    waiting_into(image, layers, turn, queue, w, Way::Hold, added)
+}
+
+fn waiting_into_tap(
+    image: &[u8],
+    layers: usize,
+    turn: Turn,
+    queue: Queue,
+    w: WaitingState,
+    added: &mut [u32; Layout::STATES],
+) -> Turn
+    requires { ⌜ Sound (now image) × Roomy turn (now added) × Lined queue ⌝ }
+    ensures { λ r. ⌜ Turned (now (image .entry)) (w .coord) turn r (now (added .entry)) (now (added .exit)) (decided Way.Tap (holdOf (tree (now (image .entry)) (w .number))) (tapOf (tree (now (image .entry)) (w .number))) layers (w .coord) (find (w .coord) (listIn queue))) ⌝ }
+{
+    waiting_into(image, layers, turn, queue, w, Way::Tap, added)
+}
+
+// The oldest event left a full queue: what waits becomes hold, then that event is acted on.
+pub(crate) fn overflow(image: &[u8], layers: usize, run: Run, queue: Queue, oldest: Stacked) -> Run
     requires { ⌜ Sound (now image) × Tidy run × Lined queue × (layers ≡ layersOf (now image)) ⌝ }
-    ensures { λ r. ⌜ Did (now (image .entry)) run r (listIn queue) (into Way.Hold (tableOf (now (image .entry))) (waitingOf (now (image .entry)) (run .waiting)) (modelOf (now (image .entry)) run (listIn queue))) ⌝ }
+    ensures { λ r. ⌜ Did (now (image .entry)) run r (listIn queue) (overflowOf (tableOf (now (image .entry))) oldest (modelOf (now (image .entry)) run (listIn queue))) ⌝ }
 {
-    waiting_into(image, layers, run, queue, Way::Hold)
-}
-
-fn waiting_into_tap(image: &[u8], layers: usize, run: Run, queue: Queue) -> Run
-    requires { ⌜ Sound (now image) × Tidy run × Lined queue × (layers ≡ layersOf (now image)) ⌝ }
-    ensures { λ r. ⌜ Did (now (image .entry)) run r (listIn queue) (into Way.Tap (tableOf (now (image .entry))) (waitingOf (now (image .entry)) (run .waiting)) (modelOf (now (image .entry)) run (listIn queue))) ⌝ }
-{
-    waiting_into(image, layers, run, queue, Way::Tap)
-}
-
-// A new event is queued. If 16 were, the oldest leaves: what waits becomes hold, then that event is acted on.
-fn enter(image: &[u8], layers: usize, parts: Parts, event: Event) -> Parts
-    requires { ⌜ Sound (now image) × Fit parts × (layers ≡ layersOf (now image)) ⌝ }
-    ensures { λ r. ⌜ Went (now (image .entry)) parts r (entered (tableOf (now (image .entry))) event (listIn (parts .queue)) (layoutIn (now (image .entry)) parts)) ⌝ }
-{
-    let run = parts.run;
-    let queue = parts.queue;
-    if queue.queued < Layout::QUEUE {
-        return Parts {
-            run,
-            queue: append(queue, event),
-        };
-    }
-    let oldest = queue.stacked[0];
-    let rest = append(shift(queue), event);
-    let quiet = waiting_into_hold(image, layers, run, rest);
-    Parts {
-        run: unstack(image, layers, quiet, rest, oldest),
-        queue: rest,
-    }
-}
-
-// If the new event releases a waiting key, it becomes tap. The release stays queued.
-fn tap_released(image: &[u8], layers: usize, parts: Parts, event: Event) -> Parts
-    requires { ⌜ Sound (now image) × Fit parts × (layers ≡ layersOf (now image)) ⌝ }
-    ensures { λ r. ⌜ Went (now (image .entry)) parts r (releasedOf (tableOf (now (image .entry))) event (layoutIn (now (image .entry)) parts)) ⌝ }
-{
-    let run = parts.run;
-    let queue = parts.queue;
     let waiting = run.waiting;
     let Waiting::On(w) = waiting else {
-        return parts;
+        return unstack(image, layers, run, queue, oldest);
     };
     let coord = w.coord;
-    if !is_release(event, coord) {
-        return parts;
-    }
-    Parts {
-        run: waiting_into_tap(image, layers, run, queue),
+    let mut added = [0u32; Layout::STATES];
+    let turn = waiting_into_hold(image, layers, turn_of(run), queue, w, &mut added);
+    unstack(
+        image,
+        layers,
+        run_after(run, turn, &added, coord),
         queue,
-    }
+        oldest,
+    )
 }
 
 // Whether the event releases the key that waits.
-fn releases_waiting(waiting: Waiting, event: Event) -> bool
+pub(crate) fn releases_waiting(waiting: Waiting, event: Event) -> bool
     ensures { λ r. ⌜ ((img : List ℕ) → r ≡ releases event (waitingOf img waiting)) ⌝ }
 {
     let Waiting::On(w) = waiting else {
@@ -206,55 +196,44 @@ fn releases_waiting(waiting: Waiting, event: Event) -> bool
     is_release(event, coord)
 }
 
-// A key event. Most are only queued: that is said apart, since both steps below copy the states.
-pub(crate) fn evented(image: &[u8], layers: usize, parts: Parts, event: Event) -> Parts
-    requires { ⌜ Sound (now image) × Fit parts × (layers ≡ layersOf (now image)) ⌝ }
-    ensures { λ r. ⌜ Went (now (image .entry)) parts r (eventOf (tableOf (now (image .entry))) event (layoutIn (now (image .entry)) parts)) ⌝ }
+// If the new event releases a waiting key, it becomes tap. The release stays queued.
+pub(crate) fn tap_released(image: &[u8], layers: usize, run: Run, queue: Queue, event: Event) -> Run
+    requires { ⌜ Sound (now image) × Tidy run × Lined queue × (layers ≡ layersOf (now image)) ⌝ }
+    ensures { λ r. ⌜ Did (now (image .entry)) run r (listIn queue) (releasedOf (tableOf (now (image .entry))) event (modelOf (now (image .entry)) run (listIn queue))) ⌝ }
 {
-    let run = parts.run;
-    let queue = parts.queue;
     let waiting = run.waiting;
-    if queue.queued < Layout::QUEUE && !releases_waiting(waiting, event) {
-        return Parts {
-            run,
-            queue: append(queue, event),
-        };
+    let Waiting::On(w) = waiting else {
+        return run;
+    };
+    let coord = w.coord;
+    if !is_release(event, coord) {
+        return run;
     }
-    tap_released(image, layers, enter(image, layers, parts, event), event)
+    let mut added = [0u32; Layout::STATES];
+    let turn = waiting_into_tap(image, layers, turn_of(run), queue, w, &mut added);
+    run_after(run, turn, &added, coord)
 }
 
-// A time event.
-pub(crate) fn ticked(image: &[u8], layers: usize, parts: Parts) -> Parts
-    requires { ⌜ Sound (now image) × Fit parts × (layers ≡ layersOf (now image)) ⌝ }
-    ensures { λ r. ⌜ Went (now (image .entry)) parts r (tickOf (tableOf (now (image .entry))) (layoutIn (now (image .entry)) parts)) ⌝ }
+// A tick while a hold-tap waits: it has a tick less, and becomes hold where none is left.
+pub(crate) fn tick_waiting(
+    image: &[u8],
+    layers: usize,
+    run: Run,
+    queue: Queue,
+    w: WaitingState,
+) -> Run
+    requires { ⌜ Sound (now image) × Tidy run × Lined queue × (layers ≡ layersOf (now image)) ⌝ }
+    ensures { λ r. ⌜ Did (now (image .entry)) run r (listIn queue) (tickWait (tableOf (now (image .entry))) (w .left - 1) (withWaiting (waitingOf (now (image .entry)) (Waiting.On (record { coord = w .coord; left = w .left - 1; number = w .number }))) (modelOf (now (image .entry)) run (listIn queue)))) ⌝ }
 {
-    let run = parts.run;
-    let queue = age(parts.queue);
-    let waiting = run.waiting;
-    match waiting {
-        Waiting::On(w) => {
-            let left = less(w.left, 1);
-            let mut waits = w;
-            waits.left = left;
-            let next = with_waiting(run, Waiting::On(waits));
-            if 0 < left {
-                return Parts { run: next, queue };
-            }
-            Parts {
-                run: waiting_into_hold(image, layers, next, queue),
-                queue,
-            }
-        }
-        Waiting::Nothing => {
-            if queue.queued == 0 {
-                return Parts { run, queue };
-            }
-            let oldest = queue.stacked[0];
-            let rest = shift(queue);
-            Parts {
-                run: unstack(image, layers, run, rest, oldest),
-                queue: rest,
-            }
-        }
+    let left = less(w.left, 1);
+    let mut waits = w;
+    waits.left = left;
+    let next = with_waiting(run, Waiting::On(waits));
+    if 0 < left {
+        return next;
     }
+    let coord = w.coord;
+    let mut added = [0u32; Layout::STATES];
+    let turn = waiting_into_hold(image, layers, turn_of(next), queue, waits, &mut added);
+    run_after(next, turn, &added, coord)
 }

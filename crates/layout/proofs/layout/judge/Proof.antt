@@ -6,7 +6,7 @@ use Rattle.image.specs.declared.words.Shape.{Shape}
 use Rattle.image.specs.declared.rules.Checked.{Checked}
 use Rattle.image.proofs.Accepted.{accepted}
 use Rattle.layout.specs.Calls.{rule, judgedBy, judgedOf}
-use Rattle.layout.specs.Parts.{judgedAs}
+use Rattle.layout.specs.Parts.{layoutOf, judgedAs}
 use Rattle.layout.proofs.layout.judge.Statement.{statement}
 use Rattle.layout.proofs.layout.judge.Tie as tie
 
@@ -16,7 +16,7 @@ returns c =
     let k = c .before .before .before in
     let s = k .before .before in
     let told = c .before .enum-told .given .1 in
-    c .judged-as .ensures ∙ ap judgedAs told ∙ sym (ap (λ (x : Checked). judgedBy x (s .args .image .now) (s .args .layout) (s .args .room)) (sym (k .check .ensures) ∙ told))
+    c .judged-as .ensures ∙ ap judgedAs told ∙ sym (ap (λ (x : Checked). judgedBy x (s .args .image .now) (layoutOf (record { run = s .args .run; queue = s .args .queue })) (s .args .room)) (sym (k .check .ensures) ∙ told))
 
 returns-2 : tie.Need-returns-2
 unfolding judgedOf judgedBy rule

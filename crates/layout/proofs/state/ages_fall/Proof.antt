@@ -12,15 +12,15 @@ use Rattle.layout.proofs.state.ages_fall.Statement.{statement}
 use Rattle.layout.proofs.state.ages_fall.Tie as tie
 
 abbrev Inv-loop : tie.InvT-loop
-Inv-loop layout n i₀ i =
-    (i ≤ n) × (falling (take n (layout .stacked)) ≡ falling (drop i (take n (layout .stacked))))
+Inv-loop queue n i₀ i =
+    (i ≤ n) × (falling (take n (queue .stacked)) ≡ falling (drop i (take n (queue .stacked))))
 
 abbrev μ-loop : tie.MeasureT-loop
-μ-loop layout n i₀ i = n - i
+μ-loop queue n i₀ i = n - i
 
 -- every array has its length
 long : (c : tie.Start Inv-loop μ-loop) → length (c .args .t1 .stacked) ≡ 16
-long c = sym (length-map (c .args .t1 .stacked) _) ∙ c .good .0 .1 .1 .1 .1 .1 .1 .0 .1 .0 .1
+long c = sym (length-map (c .args .t1 .stacked) _) ∙ c .good .0 .1 .1 .0 .1 .0 .1
 
 loop-holds : tie.Need-loop-holds Inv-loop μ-loop
 loop-holds c = (omega arith, refl)

@@ -13,15 +13,15 @@ use Rattle.layout.proofs.state.events_unused.Statement.{statement}
 use Rattle.layout.proofs.state.events_unused.Tie as tie
 
 abbrev Inv-loop : tie.InvT-loop
-Inv-loop layout i₀ i =
-    (i₀ ≤ i) × (every unusedStacked (drop i₀ (layout .stacked)) ≡ every unusedStacked (drop i (layout .stacked)))
+Inv-loop queue i₀ i =
+    (i₀ ≤ i) × (every unusedStacked (drop i₀ (queue .stacked)) ≡ every unusedStacked (drop i (queue .stacked)))
 
 abbrev μ-loop : tie.MeasureT-loop
-μ-loop layout i₀ i = 16 - i
+μ-loop queue i₀ i = 16 - i
 
 -- every array has its length
 long : (c : tie.Start Inv-loop μ-loop) → length (c .args .t1 .stacked) ≡ 16
-long c = sym (length-map (c .args .t1 .stacked) _) ∙ c .good .0 .1 .1 .1 .1 .1 .1 .0 .1 .0 .1
+long c = sym (length-map (c .args .t1 .stacked) _) ∙ c .good .0 .1 .1 .0 .1 .0 .1
 
 loop-holds : tie.Need-loop-holds Inv-loop μ-loop
 loop-holds c = (omega arith, refl)

@@ -22,23 +22,23 @@ returns-3 c = rw (le-leb _ _ (c .before .before .before .before .if1 .left), le-
 
 returns-4 : tie.Need-returns-4
 unfolding stateGood
-returns-4 c = rw (le-leb _ _ (c .before .before .before .before .before .before .if1 .left), le-leb _ _ (c .before .before .before .before .if2 .left), sym (c .before .before .before .states-legal .ensures) ∙ not-false _ (c .before .before .if3 .left), le-ltb (c .before .before .before .before .before .before .before .before .before .args .layout .«default_layer») (layersOf (c .before .before .before .before .before .before .before .before .before .args .image .now)) (omega (arith, c .if4 .taken, c .before .before .before .before .before .before .before .before .before .pre .1)))
+returns-4 c = rw (le-leb _ _ (c .before .before .before .before .before .before .if1 .left), le-leb _ _ (c .before .before .before .before .if2 .left), sym (c .before .before .before .states-legal .ensures) ∙ not-false _ (c .before .before .if3 .left), le-ltb (c .before .before .before .before .before .before .before .before .before .args .run .«default_layer») (layersOf (c .before .before .before .before .before .before .before .before .before .args .image .now)) (omega (arith, c .if4 .taken, c .before .before .before .before .before .before .before .before .before .pre .1)))
 
 returns-5 : tie.Need-returns-5
 unfolding stateGood
-returns-5 c = rw (le-leb _ _ (c .before .before .before .before .before .before .before .before .if1 .left), le-leb _ _ (c .before .before .before .before .before .before .if2 .left), sym (c .before .before .before .before .before .states-legal .ensures) ∙ not-false _ (c .before .before .before .before .if3 .left), lt-ltb (c .before .before .before .before .before .before .before .before .before .before .before .args .layout .«default_layer») (layersOf (c .before .before .before .before .before .before .before .before .before .before .before .args .image .now)) (omega (arith, c .before .before .if4 .left, c .before .before .before .before .before .before .before .before .before .before .before .pre .1)), sym (c .before .ages-fall .ensures) ∙ not-true _ (c .if5 .taken))
+returns-5 c = rw (le-leb _ _ (c .before .before .before .before .before .before .before .before .if1 .left), le-leb _ _ (c .before .before .before .before .before .before .if2 .left), sym (c .before .before .before .before .before .states-legal .ensures) ∙ not-false _ (c .before .before .before .before .if3 .left), lt-ltb (c .before .before .before .before .before .before .before .before .before .before .before .args .run .«default_layer») (layersOf (c .before .before .before .before .before .before .before .before .before .before .before .args .image .now)) (omega (arith, c .before .before .if4 .left, c .before .before .before .before .before .before .before .before .before .before .before .pre .1)), sym (c .before .ages-fall .ensures) ∙ not-true _ (c .if5 .taken))
 
 returns-6 : tie.Need-returns-6
 unfolding stateGood
-returns-6 c = rw (le-leb _ _ (c .before .before .before .before .before .before .before .before .before .before .if1 .left), le-leb _ _ (c .before .before .before .before .before .before .before .before .if2 .left), sym (c .before .before .before .before .before .before .before .states-legal .ensures) ∙ not-false _ (c .before .before .before .before .before .before .if3 .left), lt-ltb (c .before .before .before .before .before .before .before .before .before .before .before .before .before .args .layout .«default_layer») (layersOf (c .before .before .before .before .before .before .before .before .before .before .before .before .before .args .image .now)) (omega (arith, c .before .before .before .before .if4 .left, c .before .before .before .before .before .before .before .before .before .before .before .before .before .pre .1)), sym (c .before .before .before .ages-fall .ensures) ∙ not-false _ (c .before .before .if5 .left), sym (c .before .waiting-good .ensures) ∙ not-true _ (c .if6 .taken))
+returns-6 c = rw (le-leb _ _ (c .before .before .before .before .before .before .before .before .before .before .if1 .left), le-leb _ _ (c .before .before .before .before .before .before .before .before .if2 .left), sym (c .before .before .before .before .before .before .before .states-legal .ensures) ∙ not-false _ (c .before .before .before .before .before .before .if3 .left), lt-ltb (c .before .before .before .before .before .before .before .before .before .before .before .before .before .args .run .«default_layer») (layersOf (c .before .before .before .before .before .before .before .before .before .before .before .before .before .args .image .now)) (omega (arith, c .before .before .before .before .if4 .left, c .before .before .before .before .before .before .before .before .before .before .before .before .before .pre .1)), sym (c .before .before .before .ages-fall .ensures) ∙ not-false _ (c .before .before .if5 .left), sym (c .before .waiting-good .ensures) ∙ not-true _ (c .if6 .taken))
 
 returns-7 : tie.Need-returns-7
 unfolding stateGood
-returns-7 c = rw (le-leb _ _ (c .before .before .before .before .before .before .before .before .before .before .before .before .before .if1 .left), le-leb _ _ (c .before .before .before .before .before .before .before .before .before .before .before .if2 .left), sym (c .before .before .before .before .before .before .before .before .before .before .states-legal .ensures) ∙ not-false _ (c .before .before .before .before .before .before .before .before .before .if3 .left), lt-ltb (c .before .before .before .before .before .before .before .before .before .before .before .before .before .before .before .before .args .layout .«default_layer») (layersOf (c .before .before .before .before .before .before .before .before .before .before .before .before .before .before .before .before .args .image .now)) (omega (arith, c .before .before .before .before .before .before .before .if4 .left, c .before .before .before .before .before .before .before .before .before .before .before .before .before .before .before .before .pre .1)), sym (c .before .before .before .before .before .before .ages-fall .ensures) ∙ not-false _ (c .before .before .before .before .before .if5 .left), sym (c .before .before .before .before .waiting-good .ensures) ∙ not-false _ (c .before .before .before .if6 .left), sym (c .before .before .states-unused .ensures) ∙ c .before .if7 .taken) (c .events-unused .ensures)
+returns-7 c = rw (le-leb _ _ (c .before .before .before .before .before .before .before .before .before .before .before .before .before .if1 .left), le-leb _ _ (c .before .before .before .before .before .before .before .before .before .before .before .if2 .left), sym (c .before .before .before .before .before .before .before .before .before .before .states-legal .ensures) ∙ not-false _ (c .before .before .before .before .before .before .before .before .before .if3 .left), lt-ltb (c .before .before .before .before .before .before .before .before .before .before .before .before .before .before .before .before .args .run .«default_layer») (layersOf (c .before .before .before .before .before .before .before .before .before .before .before .before .before .before .before .before .args .image .now)) (omega (arith, c .before .before .before .before .before .before .before .if4 .left, c .before .before .before .before .before .before .before .before .before .before .before .before .before .before .before .before .pre .1)), sym (c .before .before .before .before .before .before .ages-fall .ensures) ∙ not-false _ (c .before .before .before .before .before .if5 .left), sym (c .before .before .before .before .waiting-good .ensures) ∙ not-false _ (c .before .before .before .if6 .left), sym (c .before .before .states-unused .ensures) ∙ c .before .if7 .taken) (c .events-unused .ensures)
 
 returns-8 : tie.Need-returns-8
 unfolding stateGood
-returns-8 c = rw (le-leb _ _ (c .before .before .before .before .before .before .before .before .before .before .before .before .if1 .left), le-leb _ _ (c .before .before .before .before .before .before .before .before .before .before .if2 .left), sym (c .before .before .before .before .before .before .before .before .before .states-legal .ensures) ∙ not-false _ (c .before .before .before .before .before .before .before .before .if3 .left), lt-ltb (c .before .before .before .before .before .before .before .before .before .before .before .before .before .before .before .args .layout .«default_layer») (layersOf (c .before .before .before .before .before .before .before .before .before .before .before .before .before .before .before .args .image .now)) (omega (arith, c .before .before .before .before .before .before .if4 .left, c .before .before .before .before .before .before .before .before .before .before .before .before .before .before .before .pre .1)), sym (c .before .before .before .before .before .ages-fall .ensures) ∙ not-false _ (c .before .before .before .before .if5 .left), sym (c .before .before .before .waiting-good .ensures) ∙ not-false _ (c .before .before .if6 .left), sym (c .before .states-unused .ensures) ∙ c .if7 .left) (c .if7 .left)
+returns-8 c = rw (le-leb _ _ (c .before .before .before .before .before .before .before .before .before .before .before .before .if1 .left), le-leb _ _ (c .before .before .before .before .before .before .before .before .before .before .if2 .left), sym (c .before .before .before .before .before .before .before .before .before .states-legal .ensures) ∙ not-false _ (c .before .before .before .before .before .before .before .before .if3 .left), lt-ltb (c .before .before .before .before .before .before .before .before .before .before .before .before .before .before .before .args .run .«default_layer») (layersOf (c .before .before .before .before .before .before .before .before .before .before .before .before .before .before .before .args .image .now)) (omega (arith, c .before .before .before .before .before .before .if4 .left, c .before .before .before .before .before .before .before .before .before .before .before .before .before .before .before .pre .1)), sym (c .before .before .before .before .before .ages-fall .ensures) ∙ not-false _ (c .before .before .before .before .if5 .left), sym (c .before .before .before .waiting-good .ensures) ∙ not-false _ (c .before .before .if6 .left), sym (c .before .states-unused .ensures) ∙ c .if7 .left) (c .if7 .left)
 
 pub state-good-spec : {M : Type 1} → statement M
 state-good-spec =

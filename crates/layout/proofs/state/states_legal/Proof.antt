@@ -14,11 +14,11 @@ use Rattle.layout.proofs.state.states_legal.Statement.{statement}
 use Rattle.layout.proofs.state.states_legal.Tie as tie
 
 abbrev Inv-loop : tie.InvT-loop
-Inv-loop layout n i₀ i =
-    (i ≤ n) × (every legalSlot (take n (layout .states)) ≡ every legalSlot (drop i (take n (layout .states))))
+Inv-loop run n i₀ i =
+    (i ≤ n) × (every legalSlot (take n (run .states)) ≡ every legalSlot (drop i (take n (run .states))))
 
 abbrev μ-loop : tie.MeasureT-loop
-μ-loop layout n i₀ i = n - i
+μ-loop run n i₀ i = n - i
 
 -- every array has its length
 long : (c : tie.Start Inv-loop μ-loop) → length (c .args .t1 .states) ≡ 64

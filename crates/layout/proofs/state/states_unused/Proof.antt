@@ -13,11 +13,11 @@ use Rattle.layout.proofs.state.states_unused.Statement.{statement}
 use Rattle.layout.proofs.state.states_unused.Tie as tie
 
 abbrev Inv-loop : tie.InvT-loop
-Inv-loop layout i₀ i =
-    (i₀ ≤ i) × (every unusedSlot (drop i₀ (layout .states)) ≡ every unusedSlot (drop i (layout .states)))
+Inv-loop run i₀ i =
+    (i₀ ≤ i) × (every unusedSlot (drop i₀ (run .states)) ≡ every unusedSlot (drop i (run .states)))
 
 abbrev μ-loop : tie.MeasureT-loop
-μ-loop layout i₀ i = 64 - i
+μ-loop run i₀ i = 64 - i
 
 -- every array has its length
 long : (c : tie.Start Inv-loop μ-loop) → length (c .args .t1 .states) ≡ 64
