@@ -24,14 +24,15 @@ slice-aggregate-append c = sym (length-take-le _ _ (c .before .line-length .ensu
 
 returns-3 : tie.Need-returns-3
 returns-3 c =
-    let counted = c .before .before .before .before .before in
+    let appended = c .before .before in
+    let counted = appended .before .before .before in
     let tested = counted .before .before in
     let a = tested .before .before .before .before .args in
     let at-line = now (a .line) in
     let inside = within-yes (now (a .input)) (a .place) (tested .before .if1 .left) (tested .if2 .left) in
     let found = counted .line-length .ensures in
     let n = counted .line-length .result in
-    let done = c .before .before .append .ensures in (
+    let done = appended .append .ensures in (
       place-after (now (a .input)) at-line (a .place) inside n (found .0) (found .1) _ (done .0),
       line-after (now (a .input)) at-line (a .place) inside n (found .0) (found .1) _ (done .1),
     )

@@ -1,6 +1,6 @@
 -- `talk::Text::put_hex` meets its contract. The loop's invariant: the text, with the digits of the bytes that are left, is the whole answer.
 -- Assumes nothing.
-use Prim.Native.Nat.{_+_, _-_, _<_, _≤_}
+use Prim.Native.Nat.{_-_, _<_, _≤_}
 use mathlib.Core.Path.{_≡_, sym, ap, _∙_}
 use borrow.Author.Needs.{needs}
 use denote.Ref.{now}
@@ -19,13 +19,16 @@ abbrev μ-loop : tie.MeasureT-loop
 
 loop-again : tie.Need-loop-again Inv-loop μ-loop
 loop-again c =
-    let at-loop = c .before .before .before .before .before .before in
+    let low-at = c .before in
+    let put-at = low-at .before in
+    let high-at = put-at .before in
+    let at-loop = high-at .before .before .before in
     let l = now (at-loop .before .before .args .bytes) in
     let i = at-loop .loop .i in
     let here : i < length l = search needs in
-    let high = c .before .before .before .glyph .ensures in
-    let low = c .before .glyph2 .ensures in
-    (omega (arith, here), rw (c .put2 .ensures, c .before .before .put .ensures, high, low, ← hex-on (at-loop .loop .out) l i here) (at-loop .loop .inv .1))
+    let high = high-at .glyph .ensures in
+    let low = low-at .glyph2 .ensures in
+    (omega (arith, here), rw (c .put2 .ensures, put-at .put .ensures, high, low, ← hex-on (at-loop .loop .out) l i here) (at-loop .loop .inv .1))
 
 returns : tie.Need-returns Inv-loop μ-loop
 unfolding putAll hexOf

@@ -1,7 +1,5 @@
 -- `talk::Text::put_place` meets its contract. Assumes nothing.
-use mathlib.Core.Path.{sym, ap, _∙_}
 use borrow.Author.Needs.{needs}
-use native.Mathlib.Omega.{arith}
 use Rattle.talk.specs.Text.{putAll}
 use Rattle.talk.proofs.Laws.{place-zero, place-past, place-digit}
 use Rattle.talk.proofs.text.Text.put_place.Statement.{statement}
