@@ -42,7 +42,13 @@ fn nested() -> Vec<u8> {
     full(records, [4, 6, 9, 0], &list)
 }
 
-fn seven() -> Vec<(&'static str, Vec<u8>)> {
+/// Record 1 names record 0, a NoOp; each later one names record 1 as often as the weight allows.
+fn pairs() -> Vec<u8> {
+    let list = [&[0][..], &[1; 31]].concat();
+    full(vec![[0; 4], [4, 0, 1, 0]], [4, 1, 31, 0], &list)
+}
+
+fn eight() -> Vec<(&'static str, Vec<u8>)> {
     let empty = [4, 0, 0, 0];
     let of_63 = [4, 0, 63, 0];
     vec![
@@ -70,6 +76,10 @@ fn seven() -> Vec<(&'static str, Vec<u8>)> {
         (
             "largest: 252 MultipleActions that each name nine times one nested three deep",
             nested(),
+        ),
+        (
+            "largest: 254 MultipleActions that each name 31 times one that names a NoOp",
+            pairs(),
         ),
     ]
 }
@@ -140,7 +150,7 @@ fn case(part: &'static str, name: &str, size: Option<usize>, table: Vec<u8>) -> 
 }
 
 pub fn cases() -> Vec<Case> {
-    let given = seven().into_iter();
+    let given = eight().into_iter();
     let given = given.map(|(name, table)| case("image", name, None, table));
     let parts = [
         ("cells", of_cells()),
