@@ -45,7 +45,7 @@ hold-heft n t h p e =
     let tapped : open? p ≡ false = not-true _ (both .1) in
     rw (held, tapped) (omega arith)
 
--- a record that is not open comes to its weight, and any to a little more than the mark at most
+-- a record that is not open comes to its weight, and a light one to 64 more than the mark at most
 shut-heft : (a : Action) → open? a ≡ false → heft a ≡ weight a
 unfolding heft
 shut-heft a e = rw e (omega arith)
@@ -83,7 +83,8 @@ open-hefts (a & as′) e = go (open? a) refl e (λ s. open-hefts as′ s)
     go true t s rest = omega (arith, open-heft a t)
     go false t s rest = omega (arith, rest s)
 
--- lower records are good, so many of them weigh little, and come to less than the higher mark
+-- lower records are good: each weighs at most 64 and comes to at most 1,048,640, which is the mark more, and 1,024 of them
+-- come to 1,073,807,360
 module _ (img : List ℕ) (n : ℕ) (f : Formed img n) where
   few-hefts : (ks : List ℕ) → every (λ k. ltb k n) ks ≡ true → hefts (named (tree img) ks) ≤ 1048640 * length ks
   unfolding hefts named
