@@ -5,9 +5,10 @@ use mathlib.Core.Path.{_≡_, refl, ap, ap₂}
 use mathlib.Core.List.{List, [], _∷_, _++_}
 use native.Mathlib.Omega.{arith}
 use borrow.Author.Tests.{le-leb}
-use lib.ListN.{length, drop, length-append, length-drop}
+use lib.ListN.{length, drop}
 use lib.Seq.{take-at}
-use Rattle.lists.specs.Lists.{every}
+use Rattle.lists.specs.Lists.{every, laid}
+use Rattle.lists.proofs.Laws.{laid-long}
 use Rattle.image.specs.Check.{checkOf}
 use Rattle.image.specs.Sound.{Sound}
 use Rattle.image.specs.Table.{tableOf}
@@ -16,7 +17,7 @@ use Rattle.image.specs.declared.rules.Checked.the-variants.{Accepted}
 use Rattle.image.proofs.Accepted.{accepted}
 use Rattle.layout.specs.Model.{Model, Done, fresh}
 use Rattle.layout.specs.Steps.{event, tick, codes}
-use Rattle.layout.specs.Packed.{laid, noNotes, noted}
+use Rattle.layout.specs.Packed.{noNotes, noted}
 use Rattle.layout.specs.Calls.{pack, rule, judgedBy, judgedOf, answerOf, layoutAfter, buffered}
 use Rattle.layout.specs.declared.run.State.{State}
 use Rattle.layout.specs.declared.run.State.the-variants.{NormalKey, LayerModifier}
@@ -35,9 +36,6 @@ unfolding codes
 codes-few [] = omega arith
 codes-few (NormalKey k c ∷ s) = omega (arith, codes-few s)
 codes-few (LayerModifier v c ∷ s) = omega (arith, codes-few s)
-
-laid-length : (bytes buffer : List ℕ) → length bytes ≤ length buffer → length (laid bytes buffer) ≡ length buffer
-laid-length bytes buffer h = simp (length-append, length-drop) (omega arith)
 
 -- what a call that did so hands back
 abbrev pub handed : Done → List ℕ → Reply
@@ -92,7 +90,7 @@ module _ (img : List ℕ) (shape : Shape) (e : checkOf img ≡ Accepted shape) w
       let r = call (tableOf img) k l in
       let v = stays-lawful k l w in
       let b = laid (codes (r .layout .states)) buffer in
-      let long : 64 ≤ length b = omega (arith, h, v .few, codes-few (r .layout .states), laid-length (codes (r .layout .states)) buffer (omega (arith, h, v .few, codes-few (r .layout .states)))) in
+      let long : 64 ≤ length b = omega (arith, h, v .few, codes-few (r .layout .states), laid-long (codes (r .layout .states)) buffer (omega (arith, h, v .few, codes-few (r .layout .states)))) in
       let t = tied ks (r .layout) b v long in
       record {
         layout = rw (reply-is k l buffer w h) (t .layout);

@@ -7,6 +7,7 @@ use native.Mathlib.Omega.{arith}
 use borrow.Author.Tests.{leb-true}
 use lib.Dec.{leb}
 use lib.ListN.{length, take, length-map}
+use Rattle.lists.specs.Lists.{laid}
 use Rattle.refusal.specs.declared.Refusal.{Refusal}
 use Rattle.image.specs.Words.{layersOf}
 use Rattle.image.specs.Check.{checkOf}
@@ -17,7 +18,7 @@ use Rattle.image.specs.declared.rules.Checked.the-variants as checked
 use Rattle.image.proofs.Accepted.{accepted}
 use Rattle.layout.specs.Model.{Model, Done}
 use Rattle.layout.specs.Steps.{codes}
-use Rattle.layout.specs.Packed.{pad, laid, noSlot, noStacked, statesIn, waitingOf, waitingIn, noNotes, noted}
+use Rattle.layout.specs.Packed.{pad, noSlot, noStacked, statesIn, waitingOf, waitingIn, noNotes, noted}
 use Rattle.layout.specs.Calls.{pack, unpack, stateGood, rule, judgedBy, judgedOf, answerOf, layoutAfter, answered, buffered}
 use Rattle.layout.specs.Parts.{partsOf, layoutOf}
 use Rattle.layout.specs.Inside.{Parts, Fit, Went, layoutIn}

@@ -6,7 +6,7 @@ use mathlib.Core.Bool.{Bool, true, false, _&&_}
 use mathlib.Core.List.{List, [], _∷_, map}
 use lib.Dec.{eqb, leb, ltb}
 use lib.ListN.{length, take, drop}
-use Rattle.lists.specs.Lists.{every}
+use Rattle.lists.specs.Lists.{every, laid}
 use Rattle.codes.specs.Codes.{legal}
 use Rattle.refusal.specs.Number.{numberOf}
 use Rattle.refusal.specs.declared.Refusal.{Refusal}
@@ -20,7 +20,7 @@ use Rattle.image.specs.declared.rules.Checked.{Checked}
 use Rattle.image.specs.declared.rules.Checked.the-variants as checked
 use Rattle.layout.specs.Model.{Model, Done, same}
 use Rattle.layout.specs.Steps.{codes}
-use Rattle.layout.specs.Packed.{pad, laid, noSlot, noStacked, waitingOf, waitingIn, noNotes, noted}
+use Rattle.layout.specs.Packed.{pad, noSlot, noStacked, waitingOf, waitingIn, noNotes, noted}
 use Rattle.layout.specs.declared.run.State.{State}
 use Rattle.layout.specs.declared.run.State.the-variants.{NormalKey, LayerModifier}
 use Rattle.layout.specs.declared.run.Slot.{Slot}

@@ -3,7 +3,7 @@
 -- Assumes nothing.
 use Prim.Native.Nat.{ℕ, _-_}
 use mathlib.Core.List.{List, [], _∷_, _++_, map}
-use lib.ListN.{length, take, drop, replicate}
+use lib.ListN.{length, take, replicate}
 use Rattle.event.specs.declared.Coord.{Coord}
 use Rattle.event.specs.declared.Event.{Event}
 use Rattle.event.specs.declared.Event.the-variants.{Release}
@@ -27,10 +27,6 @@ use Rattle.layout.specs.declared.queue.Queue.{Queue}
 -- the list, filled up with z to n places
 abbrev pub pad : {A : Type 0} → ℕ → A → List A → List A
 pad n z l = l ++ replicate (n - length l) z
-
--- bytes laid over the start of a buffer, which keeps what is past them
-abbrev pub laid : List ℕ → List ℕ → List ℕ
-laid bytes buffer = bytes ++ drop (length bytes) buffer
 
 -- what an unused place holds
 abbrev pub noSlot : Slot

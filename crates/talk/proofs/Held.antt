@@ -4,7 +4,7 @@ use mathlib.Core.List.{List, [], _∷_, _++_, append-nil}
 use mathlib.Core.Path.{_≡_, sym, ap, _∙_}
 use native.Mathlib.Numerals.{add-one}
 use native.Mathlib.Omega.{arith}
-use lib.ListN.{length, set, take, length-set}
+use lib.ListN.{length, length-set}
 use lib.Seq.{append-snoc, take-suc-set}
 use Rattle.talk.specs.declared.text.Text.{Text}
 use Rattle.talk.specs.Text.{put, putAll, held}

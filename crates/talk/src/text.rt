@@ -1,7 +1,6 @@
 // An answer while it is made: so many bytes, by value. Each function takes a text and hands it back with more behind it.
 // Assumes nothing.
 ghost use mathlib.Core.Path.{_≡_};
-ghost use mathlib.Core.List.{[], _∷_};
 ghost use lib.ListN.{replicate};
 ghost use Rattle.talk.specs.Text.{put, putAll, glyphOf, hexOf, placeOf, decimalOf};
 
