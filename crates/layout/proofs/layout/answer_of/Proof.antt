@@ -1,6 +1,6 @@
 -- `layout::layout::answer_of` meets its contract. Assumes nothing.
 use Prim.Native.Nat.{_-_, _≤_}
-use mathlib.Core.List.{_++_, map}
+use mathlib.Core.List.{_++_, map, append-nil}
 use mathlib.Core.Logic.{⊎-elim}
 use mathlib.Core.Path.{_≡_, refl}
 use native.Mathlib.Omega.{arith}
@@ -9,7 +9,6 @@ use Rattle.layout.specs.Steps.{codes}
 use Rattle.layout.specs.declared.run.Slot.{Slot}
 use Rattle.layout.specs.Packed.{noSlot}
 use lib.ListN.{length, take, drop, length-append, length-set}
-use mathlib.Core.List.{append-nil}
 use Rattle.layout.proofs.Pads.{buf-more}
 use Rattle.layout.proofs.Codes.{codes-more}
 use Rattle.layout.proofs.Runs.{tidy-length}

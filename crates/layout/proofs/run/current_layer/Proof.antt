@@ -1,6 +1,6 @@
 -- `layout::run::current_layer` meets its contract. Assumes nothing.
 use Prim.Native.Nat.{_+_, _-_, _*_, _≤_}
-use mathlib.Core.Bool.{true, false, _||_}
+use mathlib.Core.Bool.{true, false, _||_, or-true}
 use mathlib.Core.List.{map}
 use mathlib.Core.Logic.{⊎-elim}
 use mathlib.Core.Path.{_≡_, refl, _∙_}
@@ -10,7 +10,6 @@ use Rattle.layout.specs.Steps.{held, sum as sumOf}
 use Rattle.layout.specs.declared.run.Slot.{Slot}
 use Rattle.layout.specs.Packed.{noSlot}
 use lib.ListN.{take, drop}
-use mathlib.Core.Bool.{or-true}
 use Rattle.layout.proofs.Pads.{drop-one, drop-done}
 use Rattle.layout.proofs.Codes.{any, current-is}
 use Rattle.layout.proofs.Runs.{tidy-length}

@@ -3,11 +3,10 @@ use Prim.Native.Nat.{_-_, _≤_}
 use mathlib.Core.Path.{_≡_, refl, sym, _∙_}
 use native.Mathlib.Omega.{arith}
 use borrow.Author.Needs.{needs}
-use lib.ListN.{length, take, drop, length-map}
+use lib.ListN.{length, take, drop, length-map, length-drop, length-take}
 use Rattle.layout.specs.Packed.{noStacked}
 use Rattle.layout.specs.Calls.{falling}
 use Rattle.layout.proofs.States.{falling-next, falling-stop, falling-short}
-use lib.ListN.{length-drop, length-take}
 use Rattle.layout.proofs.state.ages_fall.Statement.{statement}
 use Rattle.layout.proofs.state.ages_fall.Tie as tie
 

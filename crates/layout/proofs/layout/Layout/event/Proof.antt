@@ -2,14 +2,13 @@
 use Prim.Native.Nat.{ℕ}
 use mathlib.Core.Path.{_≡_, sym, ap, _∙_}
 use borrow.Author.Needs.{needs}
-use lib.ListN.{length, length-map}
+use lib.ListN.{length, length-map, drop, getD, length-drop}
 use Rattle.layout.specs.Calls.{judgedOf}
 use Rattle.layout.specs.Parts.{refusedAs}
 use Rattle.layout.specs.declared.layout.Judged.the-variants as judged
 use mathlib.Core.Bool.{false}
 use native.Mathlib.Omega.{arith}
 use borrow.Author.Tests.{not-true}
-use lib.ListN.{drop, getD, length-drop}
 use lib.Seq.{getD-take}
 use Rattle.image.specs.Table.{tableOf}
 use Rattle.layout.specs.Model.{still}

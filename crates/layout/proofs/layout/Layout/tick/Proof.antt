@@ -2,13 +2,12 @@
 use Prim.Native.Nat.{ℕ, _<_}
 use mathlib.Core.Path.{_≡_, sym, ap, _∙_}
 use borrow.Author.Needs.{needs}
-use lib.ListN.{length, length-map}
+use lib.ListN.{length, length-map, drop, getD}
 use Rattle.layout.specs.Calls.{judgedOf}
 use Rattle.layout.specs.Parts.{refusedAs}
 use Rattle.layout.specs.declared.layout.Judged.the-variants as judged
 use mathlib.Core.List.{List}
 use native.Mathlib.Omega.{arith}
-use lib.ListN.{drop, getD}
 use lib.Seq.{getD-take}
 use Rattle.image.specs.Table.{tableOf}
 use Rattle.layout.specs.Model.{still}
