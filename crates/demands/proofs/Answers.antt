@@ -10,13 +10,12 @@ use Rattle.image.specs.Legal.{Times}
 use Rattle.image.specs.Table.{Table}
 use Rattle.layout.specs.Model.{Model}
 use Rattle.layout.specs.Packed.{actedOn, decisions}
-use Rattle.layout.proofs.Acts.{noted-acted}
-use Rattle.layout.proofs.Decisions.{noted-all}
+use Rattle.layout.proofs.Acts.{acted-append, noted-acted}
+use Rattle.layout.proofs.Decisions.{decisions-append, noted-all}
 use Rattle.demands.specs.Runs.{Call, Tick, Enter, call, run}
 use Rattle.demands.specs.Answers.{answers, namedEvents, namedDecisions}
 use Rattle.demands.specs.Limits.{most}
 use Rattle.demands.specs.OnLists.{Legal}
-use Rattle.demands.proofs.Marks.{acted-append, decisions-append}
 use Rattle.demands.proofs.Calls.{Fit, goes-call}
 use Rattle.demands.proofs.Limits.{limits}
 

@@ -16,22 +16,24 @@ use Rattle.lists.specs.Lists.{keep}
 use Rattle.event.specs.declared.Coord.{Coord}
 use Rattle.event.specs.declared.Event.{Event}
 use Rattle.event.specs.declared.Event.the-variants.{Release, Press}
-use Rattle.image.specs.Tree.{Action, NoOp, Trans, KeyCode, MultipleKeyCodes, MultipleActions, Layer, DefaultLayer, HoldTap}
-use Rattle.image.specs.Legal.{Times, legal}
+use Rattle.image.specs.Tree.{Action}
+use Rattle.image.specs.Legal.{Times}
 use Rattle.image.specs.Table.{Table}
 use Rattle.layout.specs.Model.{Waiting, Idle, Waits, Model, Mark, Decided, same, still, withWaiting, withQueue}
 use Rattle.layout.specs.Packed.{actedOn, decisions}
 use Rattle.layout.specs.Actions.{find, decided}
-use Rattle.layout.specs.Steps.{held, current, orDefault, pressed, coordIn, release, act, into, intoHold, intoTap, releases, released, overflow, appended, entered, event, olderOne, older, tickWait, ticked, tick}
+use Rattle.layout.specs.Steps.{held, current, pressed, coordIn, release, act, into, intoHold, intoTap, releases, released, overflow, appended, entered, event, olderOne, older, tickWait, ticked, tick}
 use Rattle.layout.specs.declared.run.State.{State}
 use Rattle.layout.specs.declared.run.Way.{Way}
 use Rattle.layout.specs.declared.run.Way.the-variants.{Tap, Hold}
 use Rattle.layout.specs.declared.queue.Stacked.{Stacked}
+use Rattle.layout.proofs.Acts.{acted-append}
+use Rattle.layout.proofs.Decisions.{default-legal}
 use Rattle.demands.specs.Runs.{Call, Tick, Enter, call, run, arrived}
 use Rattle.demands.specs.Words.{Leads, Nothing, Key, downBy, downAfter}
 use Rattle.demands.specs.OnLists.{Legal}
 use Rattle.demands.proofs.Cost.{cost, share, cost-less, share-whole}
-use Rattle.demands.proofs.Marks.{made, acted-append, leads-append, down-append, Down, down-nil, down-head, down-cons, down-more}
+use Rattle.demands.proofs.Marks.{made, leads-append, down-append, Down, down-nil, down-head, down-cons, down-more}
 use Rattle.demands.proofs.Actions.{Ends, ends-hold, ends-tap, pending, waits, Good, Sure, good-idle, good-more, good-cost, ran}
 
 abbrev eventIn : Stacked → Event
@@ -79,16 +81,6 @@ pub record Acts (m : Times) (e : Event) (age : ℕ) (h : Coord → Bool) (l k : 
   pub wait : Good m (share m age) (λ c. downBy e c (h c)) (k .waiting)
   pub few : made ms + waits (k .waiting) ≤ 1
   pub down : Down (λ c. downBy e c (h c)) (k .states)
-
-default-legal : (a b : Action) (m : Times) → legal a m ≡ true → legal b m ≡ true → legal (orDefault a b) m ≡ true
-default-legal NoOp b m s t = s
-default-legal Trans b m s t = t
-default-legal (KeyCode k) b m s t = s
-default-legal (MultipleKeyCodes k) b m s t = s
-default-legal (MultipleActions k) b m s t = s
-default-legal (Layer k) b m s t = s
-default-legal (DefaultLayer k) b m s t = s
-default-legal (HoldTap i x y z) b m s t = s
 
 -- what a release leaves is down without its key
 down-kept : (c : Coord) (h : Coord → Bool) (s : State) (rest : List State) (b : Bool) → same c (coordIn s) ≡ b → h (coordIn s) ≡ true

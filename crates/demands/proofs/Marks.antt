@@ -10,26 +10,12 @@ use Rattle.lists.proofs.Laws.{every-head, every-append}
 use Rattle.event.specs.declared.Coord.{Coord}
 use Rattle.event.specs.declared.Event.{Event}
 use Rattle.layout.specs.Model.{Mark, Acted, Begun, Decided}
-use Rattle.layout.specs.Packed.{actedOn, decisions}
+use Rattle.layout.specs.Packed.{decisions}
 use Rattle.layout.specs.Steps.{coordIn}
 use Rattle.layout.specs.declared.run.State.{State}
-use Rattle.layout.specs.declared.run.Way.{Way}
+use Rattle.layout.proofs.Decisions.{decisions-append}
 use Rattle.demands.specs.Runs.{Call, Tick, Enter, ticks, arrived}
 use Rattle.demands.specs.Words.{Leads, Pending, Nothing, Key, downBy, downAfter}
-
-pub acted-append : (ms ns : List Mark) → actedOn (ms ++ ns) ≡ actedOn ms ++ actedOn ns
-unfolding actedOn
-acted-append [] ns = refl
-acted-append (Acted e ∷ ms) ns = ap (λ (l : List Event). e ∷ l) (acted-append ms ns)
-acted-append (Begun c ∷ ms) ns = acted-append ms ns
-acted-append (Decided c w ∷ ms) ns = acted-append ms ns
-
-pub decisions-append : (ms ns : List Mark) → decisions (ms ++ ns) ≡ decisions ms ++ decisions ns
-unfolding decisions
-decisions-append [] ns = refl
-decisions-append (Acted e ∷ ms) ns = decisions-append ms ns
-decisions-append (Begun c ∷ ms) ns = decisions-append ms ns
-decisions-append (Decided c w ∷ ms) ns = ap (λ (l : List (Coord × Way)). (c, w) ∷ l) (decisions-append ms ns)
 
 -- how many decisions there are
 abbrev pub made : List Mark → ℕ

@@ -24,7 +24,7 @@ use Rattle.layout.specs.declared.run.Notes.{Notes}
 use Rattle.layout.specs.declared.queue.Found.{Found}
 use Rattle.layout.specs.declared.queue.Stacked.{Stacked}
 
-acted-append : (a b : List Mark) → actedOn (a ++ b) ≡ actedOn a ++ actedOn b
+pub acted-append : (a b : List Mark) → actedOn (a ++ b) ≡ actedOn a ++ actedOn b
 unfolding actedOn
 acted-append [] b = refl
 acted-append (Acted e ∷ a) b = ap (λ (x : List Event). e ∷ x) (acted-append a b)

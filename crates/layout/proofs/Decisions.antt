@@ -36,7 +36,7 @@ use Rattle.layout.specs.declared.layout.Layout.{Layout}
 pub count : List Mark → ℕ
 count ms = length (decisions ms)
 
-decisions-append : (a b : List Mark) → decisions (a ++ b) ≡ decisions a ++ decisions b
+pub decisions-append : (a b : List Mark) → decisions (a ++ b) ≡ decisions a ++ decisions b
 unfolding decisions
 decisions-append [] b = refl
 decisions-append (Acted e ∷ a) b = decisions-append a b
@@ -178,7 +178,7 @@ true-of : (b : Bool) → T b → b ≡ true
 true-of true t = refl
 true-of false t = absurd t
 
-default-legal : (a b : Action) (m : Times) → legal a m ≡ true → legal b m ≡ true → legal (orDefault a b) m ≡ true
+pub default-legal : (a b : Action) (m : Times) → legal a m ≡ true → legal b m ≡ true → legal (orDefault a b) m ≡ true
 unfolding legal
 default-legal NoOp b m r s = refl
 default-legal Trans b m r s = s

@@ -1,6 +1,6 @@
 -- What the functions' proofs share: a digit, a word by its length, the first space. Assumes nothing.
 use Prim.Native.Nat.{ℕ, suc, _+_, _-_, _*_, _<_, _≤_}
-use mathlib.Core.Bool.{Bool, true, false, _&&_}
+use mathlib.Core.Bool.{and-false}
 use mathlib.Core.List.{List, [], _∷_}
 use mathlib.Core.Path.{_≡_, refl, sym, ap, _∙_}
 use native.Mathlib.Numerals.{add-one}
@@ -64,10 +64,6 @@ pub space-on : (l : List ℕ) (at : ℕ) → at < length l → (getD l at 0 ≡ 
 unfolding spaceAt
 space-on l at h n = rw (add-one, drop-cons l at 0, ne-eqb _ _ n)
 
-and-no : (a : Bool) → a && false ≡ false
-and-no true = refl
-and-no false = refl
-
 -- a row past 255, a column past 255, and neither
 pub pair-row : (i j : ℕ) → 255 < i → pair i j ≡ Nowhere
 unfolding pair
@@ -75,7 +71,7 @@ pair-row i j h = rw (lt-leb i 255 h)
 
 pub pair-column : (i j : ℕ) → 255 < j → pair i j ≡ Nowhere
 unfolding pair
-pair-column i j h = rw (lt-leb j 255 h, and-no)
+pair-column i j h = rw (lt-leb j 255 h, and-false)
 
 pub pair-both : (i j : ℕ) → i ≤ 255 → j ≤ 255 → pair i j ≡ At i j
 unfolding pair
@@ -125,7 +121,7 @@ line-tick l n e = rw (n, e)
 pub line-one : (l : List ℕ) → length l ≡ 1 → (getD l 0 0 ≡ 116 → ⊥) → lineOf l ≡ Unread
 unfolding lineOf opens
 line-one [] n e = absurd (omega arith)
-line-one (a ∷ []) n e = rw (ne-eqb a 116 e, and-no (eqb a 112), and-no (eqb a 114))
+line-one (a ∷ []) n e = rw (ne-eqb a 116 e, and-false (eqb a 112), and-false (eqb a 114))
 line-one (a ∷ b ∷ l) n e = absurd (omega arith)
 
 pub line-none : (l : List ℕ) → (length l ≡ 1 → ⊥) → length l < 2 → lineOf l ≡ Unread
@@ -137,7 +133,7 @@ line-none (a ∷ b ∷ l) n h = absurd (omega arith)
 module _ (l : List ℕ) (n : length l ≡ 1 → ⊥) where
   pub line-parted : (getD l 1 0 ≡ 32 → ⊥) → lineOf l ≡ Unread
   unfolding lineOf opens
-  line-parted e = rw (ne-eqb (length l) 1 n, ne-eqb (getD l 1 0) 32 e, and-no (eqb (getD l 0 0) 112), and-no (eqb (getD l 0 0) 114))
+  line-parted e = rw (ne-eqb (length l) 1 n, ne-eqb (getD l 1 0) 32 e, and-false (eqb (getD l 0 0) 112), and-false (eqb (getD l 0 0) 114))
 
   pub line-press : getD l 1 0 ≡ 32 → getD l 0 0 ≡ 112 → lineOf l ≡ pressAt (coordsOf (drop 2 l))
   unfolding lineOf opens

@@ -1,6 +1,6 @@
 -- What the functions' proofs share: a text with more bytes, digits, the first newline, bytes behind others. Assumes nothing.
 use Prim.Native.Nat.{ℕ, suc, _+_, _-_, _/_, _%_, _<_, _≤_}
-use mathlib.Core.Bool.{Bool, true, false, _&&_}
+use mathlib.Core.Bool.{true, false, and-false}
 use mathlib.Core.List.{List, [], _∷_, _++_}
 use mathlib.Core.Path.{_≡_, refl}
 use native.Mathlib.Numerals.{add-one}
@@ -91,11 +91,6 @@ pub appended-past : (l : List ℕ) (n : ℕ) (bs : List ℕ) → length l < n + 
 unfolding appended
 appended-past l n bs h = rw (lt-leb (n + length bs) (length l) h)
 
--- a place that is in the input, and two that are not
-and-no : (a : Bool) → a && false ≡ false
-and-no true = refl
-and-no false = refl
-
 pub within-yes : (input : List ℕ) (p : Place) → p .at ≤ p .end → p .end ≤ length input → within input p ≡ true
 unfolding within
 within-yes input p h k = rw (le-leb (p .at) (p .end) h, le-leb (p .end) (length input) k)
@@ -106,7 +101,7 @@ within-before input p h = rw (lt-leb (p .at) (p .end) h)
 
 pub within-past : (input : List ℕ) (p : Place) → length input < p .end → within input p ≡ false
 unfolding within
-within-past input p h = rw (lt-leb (p .end) (length input) h, and-no)
+within-past input p h = rw (lt-leb (p .end) (length input) h, and-false)
 
 pub place-stays : (input : List ℕ) (size : ℕ) (p : Place) → within input p ≡ false → gatheredPlace input size p ≡ p
 unfolding gatheredPlace
