@@ -1,7 +1,10 @@
-// The refusals of document 01, each under the name that the paper gives it. `specs/Number.antt` has their numbers.
+// The refusals of document 01, each under the name that the paper gives it; and a verdict, that nothing is refused or what is
+// and where. `specs/Number.antt` has the numbers, `specs/Verdict.antt` the order in which rules are asked for, and
+// `specs/Said.antt` what the paper says of an answer.
 // Assumes nothing.
 ghost use mathlib.Core.Path.{_≡_};
 ghost use Rattle.refusal.specs.Number.{numberOf};
+ghost use Rattle.refusal.specs.Said.{toldOf};
 
 pub enum Refusal {
     Short,
@@ -40,6 +43,36 @@ impl Refusal {
             Refusal::Room => 12,
             Refusal::State => 13,
             Refusal::Request => 14,
+        }
+    }
+}
+
+// Nothing is refused; or the first refusal, and its place.
+pub enum Verdict {
+    Fine,
+    Refused(Refusal, usize),
+}
+
+// The number and the place of a verdict, as document 01 counts them: 0 and 0 where nothing is refused.
+pub struct Told {
+    pub number: u8,
+    pub place: usize,
+}
+
+impl Verdict {
+    // The paper's number and place, for programs that print them.
+    pub fn told(self) -> Told
+        ensures { λ r. ⌜ r ≡ toldOf self ⌝ }
+    {
+        match self {
+            Verdict::Fine => Told {
+                number: 0,
+                place: 0,
+            },
+            Verdict::Refused(refusal, place) => Told {
+                number: refusal.number(),
+                place,
+            },
         }
     }
 }
