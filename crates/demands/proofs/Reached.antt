@@ -7,7 +7,7 @@ use mathlib.Core.List.{List, [], _∷_, _++_}
 use native.Mathlib.Omega.{arith}
 use borrow.Author.Tests.{ltb-true, lt-ltb}
 use lib.Dec.{ltb}
-use lib.ListN.{length, getD, length-replicate}
+use lib.ListN.{length, getD, replicate, length-replicate}
 use Rattle.lists.specs.Lists.{every, keep}
 use Rattle.lists.proofs.Laws.{every-head}
 use Rattle.codes.specs.Codes.{legal}
@@ -27,10 +27,12 @@ use Rattle.layout.specs.declared.layout.Layout.{Layout}
 use Rattle.demands.specs.Runs.{Call, call, run, ticks, arrived}
 use Rattle.demands.specs.Words.{downAfter, AllReleased}
 use Rattle.demands.specs.OnLists.{drain, queuedAfter, Quiet}
-use Rattle.demands.specs.Demand3.{boundOf, Demand3, OfImages}
+use Rattle.demands.specs.Demand3.{boundOf, left, Demand3, OfImages}
+use Rattle.demands.specs.Public.{callsOf, ticksOn, lentAll}
+use Rattle.layout.specs.Calls.{pack}
 use Rattle.demands.specs.Z.{zOf, lent}
 use Rattle.demands.specs.Reached.{seventeen, tapped, Asked, Reached, Met}
-use Rattle.demands.proofs.Replies.{Tied, tied-fresh}
+use Rattle.demands.proofs.Replies.{Tied, tied-fresh, roomy-append, calls-are, lent-calls, lent-roomy, ticks-roomy}
 use Rattle.demands.proofs.Demand3.{at-rest, of-images}
 
 -- a list of bytes
@@ -72,19 +74,25 @@ lent-room = rw length-replicate (omega arith)
 asked : (t : ℕ) → t < 256 → Asked (zOf t) lent
 asked t h = record { bytes = z-bytes t h; accepted = z-accepted t; room = lent-room }
 
-tied-z : (t : ℕ) (ks : List Call) → Tied (zOf t) (shapeOf (zOf t)) (z-accepted t) ks fresh lent
-tied-z t ks = tied-fresh (zOf t) (shapeOf (zOf t)) (z-accepted t) ks lent lent-room
+tied-z : (t : ℕ) (ks : List Call) (n : ℕ) → Tied (zOf t) (shapeOf (zOf t)) (z-accepted t) (lentAll lent ks ++ ticksOn (replicate n lent)) fresh
+tied-z t ks n = tied-fresh (zOf t) (shapeOf (zOf t)) (z-accepted t) _ (roomy-append (lentAll lent ks) (ticksOn (replicate n lent)) (lent-roomy lent ks lent-room) (ticks-roomy lent n lent-room))
 
-bound-z : (t q : ℕ) (ks : List Call) → queuedAfter (tableOf (zOf t)) ks ≡ q → boundOf (zOf t) lent ks ≡ 2 * q + max 1 t
-bound-z t q ks e = rw (tied-z t ks .layout, e, z-longest t)
+calls-z : (ks : List Call) (n : ℕ) → callsOf (lentAll lent ks ++ ticksOn (replicate n lent)) ≡ ks ++ ticks n
+calls-z ks n = calls-are (lentAll lent ks) (replicate n lent) ∙ rw (lent-calls lent ks, length-replicate)
+
+bound-z : (t q : ℕ) (ks : List Call) → queuedAfter (tableOf (zOf t)) ks ≡ q → boundOf (zOf t) (lentAll lent ks) ≡ 2 * q + max 1 t
+bound-z t q ks e = rw (tied-fresh (zOf t) (shapeOf (zOf t)) (z-accepted t) (lentAll lent ks) (lent-roomy lent ks lent-room) .layout, lent-calls lent ks, e, z-longest t)
+
+left-z : (t : ℕ) (ks : List Call) (n : ℕ) → left (zOf t) (lentAll lent ks) (replicate n lent) ≡ pack (drain (tableOf (zOf t)) ks n .layout)
+left-z t ks n = tied-z t ks n .layout ∙ rw (calls-z ks n)
 
 pub reached : Reached
 reached =
     record {
       asked = asked 1 (omega arith);
       most = bound-z 1 16 seventeen (computed .queued);
-      before = λ q. let z : _≡_ {A = ℕ} 0 1 = cc (ap (λ (l : Layout). l .waiting) (tied-z 1 (seventeen ++ ticks 32) .layout), computed .before, q .idle) in omega arith;
-      at = rw (tied-z 1 (seventeen ++ ticks 33) .layout) (at-rest _ (computed .at));
+      before = λ q. let z : _≡_ {A = ℕ} 0 1 = cc (ap (λ (l : Layout). l .waiting) (left-z 1 seventeen 32), computed .before, q .idle) in omega arith;
+      at = rw (left-z 1 seventeen 33) (at-rest _ (computed .at));
     }
 
 -- a press, then a release, of one key
@@ -99,16 +107,16 @@ met =
       asked = asked 3 (omega arith);
       released = λ c. up-again (same (record { i = 0; j = 0 }) c);
       most = bound-z 3 2 tapped (computed .two);
-      done = tied-z 3 (tapped ++ ticks 7) .marks ∙ computed .done;
+      done = tied-z 3 tapped 7 .marks ∙ rw (calls-z tapped 7) (computed .done);
     }
 
 -- so demand 3 speaks of both
-settles : (image buffer : List ℕ) (calls : List Call) → Asked image buffer → Demand3 image buffer calls
+settles : (image : List ℕ) (calls : List Call) → Asked image lent → Demand3 image (lentAll lent calls)
 unfolding OfImages
-settles image buffer calls a = of-images image (shapeOf image) (a .bytes) (a .accepted) buffer (a .room) calls
+settles image calls a = of-images image (shapeOf image) (a .bytes) (a .accepted) (lentAll lent calls) (lent-roomy lent calls (a .room))
 
-pub reached-settles : Demand3 (zOf 1) lent seventeen
-reached-settles = settles (zOf 1) lent seventeen (reached .asked)
+pub reached-settles : Demand3 (zOf 1) (lentAll lent seventeen)
+reached-settles = settles (zOf 1) seventeen (reached .asked)
 
-pub met-settles : Demand3 (zOf 3) lent tapped
-met-settles = settles (zOf 3) lent tapped (met .asked)
+pub met-settles : Demand3 (zOf 3) (lentAll lent tapped)
+met-settles = settles (zOf 3) tapped (met .asked)

@@ -1,14 +1,12 @@
 -- A run of the public calls over an accepted image, on a layout that was packed, is the run of the steps on its lists.
 -- Assumes nothing.
-use Prim.Native.Nat.{ℕ, _≤_}
+use Prim.Native.Nat.{ℕ, zero, suc, _≤_}
 use mathlib.Core.Path.{_≡_, refl, ap, ap₂}
 use mathlib.Core.List.{List, [], _∷_, _++_}
-use native.Mathlib.Omega.{arith}
 use borrow.Author.Tests.{le-leb}
-use lib.ListN.{length, drop}
+use lib.ListN.{length, drop, replicate}
 use lib.Seq.{take-at}
 use Rattle.lists.specs.Lists.{every, laid}
-use Rattle.lists.proofs.Laws.{laid-long}
 use Rattle.image.specs.Check.{checkOf}
 use Rattle.image.specs.Sound.{Sound}
 use Rattle.image.specs.Table.{tableOf}
@@ -17,36 +15,28 @@ use Rattle.image.specs.declared.rules.Checked.the-variants.{Accepted}
 use Rattle.image.proofs.Accepted.{accepted}
 use Rattle.layout.specs.Model.{Model, Done, fresh}
 use Rattle.layout.specs.Steps.{event, tick, codes}
-use Rattle.layout.specs.Packed.{noNotes, noted}
+use Rattle.layout.specs.Packed.{noNotes, noted, notedMarks}
+use Rattle.layout.specs.Replies.{Reply, replied}
 use Rattle.layout.specs.Calls.{pack, rule, judgedBy, judgedOf, answerOf, layoutAfter, buffered}
-use Rattle.layout.specs.declared.run.State.{State}
-use Rattle.layout.specs.declared.run.State.the-variants.{NormalKey, LayerModifier}
 use Rattle.layout.specs.declared.run.Notes.{Notes}
 use Rattle.layout.specs.declared.layout.Judged.the-variants as judged
-use Rattle.layout.specs.declared.layout.Answer.the-variants as answer
 use Rattle.layout.proofs.Lawful.{Lawful, event-lawful, tick-lawful, fresh-lawful}
 use Rattle.layout.proofs.Reach.{lawful-good, unpack-pack}
-use Rattle.demands.specs.Runs.{Call, Tick, Enter, call, run}
+use Rattle.demands.specs.Runs.{Call, Tick, Enter, call, run, ticks}
 use Rattle.demands.specs.Answers.{answers}
-use Rattle.demands.specs.Public.{Reply, step, reply, replies, marksIf, marksOf, lastLayout, told, codesIn, lastCodes, notesOf, NoneRefused}
-
--- no more codes than states
-codes-few : (s : List State) → length (codes s) ≤ length s
-unfolding codes
-codes-few [] = omega arith
-codes-few (NormalKey k c ∷ s) = omega (arith, codes-few s)
-codes-few (LayerModifier v c ∷ s) = omega (arith, codes-few s)
+use Rattle.demands.specs.Public.{Lent, callsOf, ticksOn, lentAll, Roomy, step, reply, replies, marksIf, marksOf, lastLayout, codesIn, lastCodes, notesOf, NoneRefused}
 
 -- what a call that did so hands back
-abbrev pub handed : Done → List ℕ → Reply
-handed done buffer =
+abbrev pub given : Done → List ℕ → Reply
+given done buffer =
     record {
-      result = record { answer = answer.Done (length (codes (done .layout .states))) (noted noNotes (done .marks)); layout = pack (done .layout) };
+      told = record { number = 0; place = 0; codes = length (codes (done .layout .states)); notes = noted noNotes done };
+      layout = pack (done .layout);
       buffer = laid (codes (done .layout .states)) buffer;
     }
 
-handed-codes : (done : Done) (buffer : List ℕ) → codesIn (handed done buffer) ≡ codes (done .layout .states)
-handed-codes done buffer = take-at (codes (done .layout .states)) (drop (length (codes (done .layout .states))) buffer) (length (codes (done .layout .states))) refl
+given-codes : (done : Done) (buffer : List ℕ) → codesIn (given done buffer) ≡ codes (done .layout .states)
+given-codes done buffer = take-at (codes (done .layout .states)) (drop (length (codes (done .layout .states))) buffer) (length (codes (done .layout .states))) refl
 
 module _ (img : List ℕ) (shape : Shape) (e : checkOf img ≡ Accepted shape) where
   sound : Sound img
@@ -66,9 +56,14 @@ module _ (img : List ℕ) (shape : Shape) (e : checkOf img ≡ Accepted shape) w
   step-is Tick l w = ap (tick (tableOf img)) (unpack-pack img l w)
   step-is (Enter x) l w = ap (event (tableOf img) x) (unpack-pack img l w)
 
-  pub reply-is : (k : Call) (l : Model) (buffer : List ℕ) → Lawful img l → 64 ≤ length buffer → reply img k (pack l) buffer ≡ handed (call (tableOf img) k l) buffer
-  unfolding reply answerOf layoutAfter buffered
-  reply-is k l buffer w h = rw (fine l (length buffer) w h, step-is k l w)
+  replied-is : (f : Model → Done) (l : Model) (buffer : List ℕ) → Lawful img l → 64 ≤ length buffer → replied img f (pack l) buffer ≡ given (f l) buffer
+  unfolding replied answerOf layoutAfter buffered
+  replied-is f l buffer w h = rw (fine l (length buffer) w h, ap f (unpack-pack img l w))
+
+  pub reply-is : (k : Call) (l : Model) (buffer : List ℕ) → Lawful img l → 64 ≤ length buffer → reply img k (pack l) buffer ≡ given (call (tableOf img) k l) buffer
+  unfolding reply call
+  reply-is Tick l buffer w h = replied-is (tick (tableOf img)) l buffer w h
+  reply-is (Enter x) l buffer w h = replied-is (event (tableOf img) x) l buffer w h
 
   marks-are : (k : Call) (l : Model) (buffer : List ℕ) → Lawful img l → 64 ≤ length buffer
       → marksIf (judgedOf img (pack l) (length buffer)) (step img k (pack l)) ≡ call (tableOf img) k l .marks
@@ -76,28 +71,26 @@ module _ (img : List ℕ) (shape : Shape) (e : checkOf img ≡ Accepted shape) w
   marks-are k l buffer w h = rw (fine l (length buffer) w h, step-is k l w)
 
   -- a run of the public calls and the run of the steps
-  pub record Tied (ks : List Call) (l : Model) (buffer : List ℕ) : Type 0 where
-    pub layout : lastLayout (pack l) (replies img ks (pack l) buffer) ≡ pack (run (tableOf img) ks l .layout)
-    pub marks : marksOf img ks (pack l) buffer ≡ run (tableOf img) ks l .marks
-    pub notes : notesOf (replies img ks (pack l) buffer) ≡ answers (tableOf img) ks l
-    pub heard : NoneRefused (replies img ks (pack l) buffer)
-    pub told : lastCodes (codes (l .states)) (replies img ks (pack l) buffer) ≡ codes (run (tableOf img) ks l .layout .states)
+  pub record Tied (ks : List Lent) (l : Model) : Type 0 where
+    pub layout : lastLayout (pack l) (replies img ks (pack l)) ≡ pack (run (tableOf img) (callsOf ks) l .layout)
+    pub marks : marksOf img ks (pack l) ≡ run (tableOf img) (callsOf ks) l .marks
+    pub notes : notesOf (replies img ks (pack l)) ≡ answers (tableOf img) (callsOf ks) l
+    pub heard : NoneRefused (replies img ks (pack l))
+    pub told : lastCodes (codes (l .states)) (replies img ks (pack l)) ≡ codes (run (tableOf img) (callsOf ks) l .layout .states)
 
-  pub tied : (ks : List Call) (l : Model) (buffer : List ℕ) → Lawful img l → 64 ≤ length buffer → Tied ks l buffer
-  unfolding replies marksOf lastLayout lastCodes NoneRefused every run answers
-  tied [] l buffer w h = record { layout = refl; marks = refl; notes = refl; heard = refl; told = refl }
-  tied (k ∷ ks) l buffer w h =
-      let r = call (tableOf img) k l in
-      let v = stays-lawful k l w in
-      let b = laid (codes (r .layout .states)) buffer in
-      let long : 64 ≤ length b = omega (arith, h, v .few, codes-few (r .layout .states), laid-long (codes (r .layout .states)) buffer (omega (arith, h, v .few, codes-few (r .layout .states)))) in
-      let t = tied ks (r .layout) b v long in
+  pub tied : (ks : List Lent) (l : Model) → Lawful img l → Roomy ks → Tied ks l
+  unfolding replies marksOf lastLayout lastCodes NoneRefused every run answers Roomy
+  tied [] l w h = record { layout = refl; marks = refl; notes = refl; heard = refl; told = refl }
+  tied (k ∷ ks) l w h =
+      let r = call (tableOf img) (k .call) l in
+      let e = reply-is (k .call) l (k .buffer) w (h .0) in
+      let t = tied ks (r .layout) (stays-lawful (k .call) l w) (h .1) in
       record {
-        layout = rw (reply-is k l buffer w h) (t .layout);
-        marks = ap₂ _++_ (marks-are k l buffer w h) (rw (reply-is k l buffer w h) (t .marks));
-        notes = rw (reply-is k l buffer w h) (ap (λ (x : List Notes). noted noNotes (r .marks) ∷ x) (t .notes));
-        heard = rw (reply-is k l buffer w h) (t .heard);
-        told = rw (reply-is k l buffer w h, handed-codes r buffer) (t .told);
+        layout = rw e (t .layout);
+        marks = ap₂ _++_ (marks-are (k .call) l (k .buffer) w (h .0)) (rw e (t .marks));
+        notes = rw e (ap (λ (x : List Notes). noted noNotes r ∷ x) (t .notes));
+        heard = rw e (t .heard);
+        told = rw (e, given-codes r (k .buffer)) (t .told);
       }
 
   -- calls keep a layout lawful
@@ -110,5 +103,34 @@ module _ (img : List ℕ) (shape : Shape) (e : checkOf img ≡ Accepted shape) w
   pub lawful-fresh : (ks : List Call) → Lawful img (run (tableOf img) ks fresh .layout)
   lawful-fresh ks = lawful-run ks fresh (fresh-lawful img sound)
 
-  pub tied-fresh : (ks : List Call) (buffer : List ℕ) → 64 ≤ length buffer → Tied ks fresh buffer
-  tied-fresh ks buffer h = tied ks fresh buffer (fresh-lawful img sound) h
+  pub tied-fresh : (ks : List Lent) → Roomy ks → Tied ks fresh
+  tied-fresh ks h = tied ks fresh (fresh-lawful img sound) h
+
+-- calls, then ticks
+pub roomy-append : (a b : List Lent) → Roomy a → Roomy b → Roomy (a ++ b)
+unfolding Roomy
+roomy-append [] b h g = g
+roomy-append (k ∷ a) b h g = (h .0, roomy-append a b (h .1) g)
+
+ticks-are : (bs : List (List ℕ)) → callsOf (ticksOn bs) ≡ ticks (length bs)
+unfolding ticks
+ticks-are [] = refl
+ticks-are (b ∷ bs) = ap (λ (ks : List Call). Tick ∷ ks) (ticks-are bs)
+
+pub calls-are : (ks : List Lent) (bs : List (List ℕ)) → callsOf (ks ++ ticksOn bs) ≡ callsOf ks ++ ticks (length bs)
+calls-are [] bs = ticks-are bs
+calls-are (k ∷ ks) bs = ap (λ (x : List Call). k .call ∷ x) (calls-are ks bs)
+
+pub lent-calls : (b : List ℕ) (ks : List Call) → callsOf (lentAll b ks) ≡ ks
+lent-calls b [] = refl
+lent-calls b (k ∷ ks) = ap (λ (x : List Call). k ∷ x) (lent-calls b ks)
+
+pub lent-roomy : (b : List ℕ) (ks : List Call) → 64 ≤ length b → Roomy (lentAll b ks)
+unfolding Roomy
+lent-roomy b [] h = tt
+lent-roomy b (k ∷ ks) h = (h, lent-roomy b ks h)
+
+pub ticks-roomy : (b : List ℕ) (n : ℕ) → 64 ≤ length b → Roomy (ticksOn (replicate n b))
+unfolding Roomy
+ticks-roomy b zero h = tt
+ticks-roomy b (suc n) h = (h, ticks-roomy b n h)

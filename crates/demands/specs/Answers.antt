@@ -15,7 +15,7 @@ use Rattle.demands.specs.Runs.{Call, call}
 -- the notes of each answer
 unfoldable pub answers : Table → List Call → Model → List Notes
 answers table [] l = []
-answers table (k ∷ ks) l = let r = call table k l in noted noNotes (r .marks) ∷ answers table ks (r .layout)
+answers table (k ∷ ks) l = let r = call table k l in noted noNotes r ∷ answers table ks (r .layout)
 
 -- the events that the answers name, and their decisions
 unfoldable pub namedEvents : List Notes → List Event

@@ -19,7 +19,8 @@ use Rattle.layout.specs.Calls.{pack}
 use Rattle.layout.specs.declared.run.Way.{Way}
 use Rattle.layout.specs.declared.run.Way.the-variants.{Tap, Hold}
 use Rattle.demands.specs.Runs.{Call, Tick, Enter}
-use Rattle.demands.specs.Public.{Reply, replies, told, codesIn}
+use Rattle.demands.specs.Public.{lentAll, replies, codesIn}
+use Rattle.layout.specs.Replies.{Reply}
 use Rattle.demands.specs.Z.{z, lent}
 
 -- what goes in
@@ -60,11 +61,11 @@ pub data Output : Type 0 where
 unfoldable pub says : Reply → Says
 says r =
     record {
-      number = told r .number;
-      place = told r .place;
+      number = r .told .number;
+      place = r .told .place;
       codes = codesIn r;
-      acted = actedIn (told r .notes .acted);
-      decided = madeIn (told r .notes);
+      acted = actedIn (r .told .notes .acted);
+      decided = madeIn (r .told .notes);
     }
 
 -- so many events, three bytes each
@@ -82,7 +83,7 @@ scans (scan ∷ rest) d buffer =
 
 unfoldable pub outcome : Input → Output
 outcome (Check image) = let t = toldOf (checkOf image) in Found (t .number) (t .place)
-outcome (Calls image calls) = Answers (map says (replies image calls (pack fresh) lent))
+outcome (Calls image calls) = Answers (map says (replies image (lentAll lent calls) (pack fresh)))
 outcome (Codes codes) = Report (reportOf codes)
 outcome (Scans rows columns nb start list) =
     let m = made (makingVerdict rows columns nb start) rows columns nb start in

@@ -14,7 +14,8 @@ use Rattle.layout.specs.Packed.{actedOn, decisions, actedIn, madeIn}
 use Rattle.layout.specs.Calls.{pack}
 use Rattle.layout.specs.declared.layout.Layout.{Layout}
 use Rattle.demands.specs.Runs.{Call, Tick, Enter}
-use Rattle.demands.specs.Public.{Reply, step, reply, replies, lastLayout, told}
+use Rattle.demands.specs.Public.{Lent, Roomy, step, reply, replies, lastLayout}
+use Rattle.layout.specs.Replies.{Reply}
 
 -- how many decisions a call makes at most
 abbrev pub most : Call → ℕ
@@ -28,17 +29,17 @@ pub record Limits (k : Call) (marks : List Mark) : Type 0 where
 
 -- the answer names just that
 pub record Names (marks : List Mark) (r : Reply) : Type 0 where
-  pub acted : actedIn (told r .notes .acted) ≡ actedOn marks
-  pub decided : madeIn (told r .notes) ≡ decisions marks
+  pub acted : actedIn (r .told .notes .acted) ≡ actedOn marks
+  pub decided : madeIn (r .told .notes) ≡ decisions marks
 
 -- the layout after calls on a fresh one
-abbrev pub after : List ℕ → List ℕ → List Call → Layout
-after image buffer calls = lastLayout (pack fresh) (replies image calls (pack fresh) buffer)
+abbrev pub after : List ℕ → List Lent → Layout
+after image calls = lastLayout (pack fresh) (replies image calls (pack fresh))
 
 -- over every image of bytes that is accepted, after any calls, of the next one; 64 bytes are lent to each
 unfoldable pub OfImages : Type 0
 OfImages =
     (image : List ℕ) (shape : Shape) → ((i : ℕ) → getD image i 0 < 256) → checkOf image ≡ Accepted shape
-    → (buffer : List ℕ) → 64 ≤ length buffer → (calls : List Call) (k : Call)
-    → Limits k (step image k (after image buffer calls) .marks)
-    × Names (step image k (after image buffer calls) .marks) (reply image k (after image buffer calls) buffer)
+    → (calls : List Lent) → Roomy calls → (k : Call) (buffer : List ℕ) → 64 ≤ length buffer
+    → Limits k (step image k (after image calls) .marks)
+    × Names (step image k (after image calls) .marks) (reply image k (after image calls) buffer)

@@ -15,6 +15,7 @@ use Rattle.layout.specs.declared.run.Way.the-variants.{Tap}
 use Rattle.demands.specs.Runs.{Call, Enter, arrived}
 use Rattle.demands.specs.Words.{AllReleased}
 use Rattle.demands.specs.Z.{zOf, lent}
+use Rattle.demands.specs.Public.{lentAll}
 use Rattle.demands.specs.Demand3.{left, did, boundOf, AtRest}
 
 -- seventeen presses of (0,0)
@@ -30,9 +31,9 @@ pub record Asked (image buffer : List ℕ) : Type 0 where
 -- Z with timeout 1: not at rest one tick before the bound, at rest at it
 pub record Reached : Type 0 where
   pub asked : Asked (zOf 1) lent
-  pub most : boundOf (zOf 1) lent seventeen ≡ 33
-  pub before : AtRest (left (zOf 1) lent seventeen 32) → ⊥
-  pub at : AtRest (left (zOf 1) lent seventeen 33)
+  pub most : boundOf (zOf 1) (lentAll lent seventeen) ≡ 33
+  pub before : AtRest (left (zOf 1) (lentAll lent seventeen) (replicate 32 lent)) → ⊥
+  pub at : AtRest (left (zOf 1) (lentAll lent seventeen) (replicate 33 lent))
 
 -- a key pressed and released before any tick
 unfoldable pub tapped : List Call
@@ -42,7 +43,7 @@ tapped = Enter (Press 0 0) ∷ Enter (Release 0 0) ∷ []
 pub record Met : Type 0 where
   pub asked : Asked (zOf 3) lent
   pub released : AllReleased (arrived tapped)
-  pub most : boundOf (zOf 3) lent tapped ≡ 7
+  pub most : boundOf (zOf 3) (lentAll lent tapped) ≡ 7
   pub done :
       let c : Coord = record { i = 0; j = 0 } in
-      did (zOf 3) lent tapped 7 ≡ Acted (Press 0 0) ∷ Begun c ∷ Decided c Tap ∷ Acted (Release 0 0) ∷ []
+      did (zOf 3) (lentAll lent tapped) (replicate 7 lent) ≡ Acted (Press 0 0) ∷ Begun c ∷ Decided c Tap ∷ Acted (Release 0 0) ∷ []

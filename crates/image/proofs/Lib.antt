@@ -1,3 +1,4 @@
+pub mod Said
 pub mod Faults
 pub mod Header
 pub mod Entries

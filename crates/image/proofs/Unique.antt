@@ -4,6 +4,7 @@ use mathlib.Core.List.{List}
 use Prim.Native.Nat.{ℕ}
 use denote.Ref.{now}
 use Rattle.decides.specs.Decides.{Decides, DecidesAs, both}
+use Rattle.image.proofs.Said.{said-one}
 use Rattle.image.proofs.record.cell_at as C
 use Rattle.image.proofs.record.action_at as A
 use Rattle.image.proofs.record.entry_at as E
@@ -23,7 +24,7 @@ pub entry-at : Decides E.ended (λ M. E.spec) (λ M. E.clauses)
 entry-at M 𝓤 H A m r = record { same = refl; free = λ κs a g. refl; only = λ κs a g g′ x x′ ws ws′. both 𝓤 _ _ _ (λ p q. (p ∙ sym q, refl)) }
 
 pub check : Decides K.ended (λ M. K.spec) (λ M. K.clauses)
-check M 𝓤 H A m r = record { same = refl; free = λ κs a g. refl; only = λ κs a g g′ x x′ ws ws′. both 𝓤 _ _ _ (λ p q. (p ∙ sym q, refl)) }
+check M 𝓤 H A m r = record { same = refl; free = λ κs a g. refl; only = λ κs a g g′ x x′ ws ws′. both 𝓤 _ _ _ (λ p q. (said-one _ _ (p ∙ sym q), refl)) }
 
 pub told : Decides T.ended (λ M. T.spec) (λ M. T.clauses)
 told M 𝓤 H A m r = record { same = refl; free = λ κs a g. refl; only = λ κs a g g′ x x′ ws ws′. both 𝓤 _ _ _ (λ p q. (p ∙ sym q, refl)) }

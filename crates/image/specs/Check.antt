@@ -2,7 +2,7 @@
 -- fault decides. The numbers of the refusals are `numberOf` of the crate refusal.
 -- Assumes nothing.
 use Prim.Native.Nat.{ℕ, zero, suc, _+_, _*_}
-use mathlib.Core.List.{List}
+use mathlib.Core.List.{List, [], _∷_}
 use mathlib.Core.Bool.{Bool, true, false, cond, _&&_}
 use lib.ListN.{length}
 use lib.Dec.{eqb, leb, ltb}
@@ -106,3 +106,19 @@ checkOf img = answer (faultOf img) (shapeOf img)
 abbrev pub toldOf : Checked → Told
 toldOf (Accepted s) = record { number = 0; place = 0 }
 toldOf (Refused refusal place) = record { number = numberOf refusal; place = place }
+
+-- what document 01 says of an answer: its number, its place, and its values in their order; a refusal has none
+pub record Said : Type 0 where
+  pub number : ℕ
+  pub place : ℕ
+  pub values : List ℕ
+
+-- an answer of the check: number 0 at place 0 and the header's numbers; or the refusal's number and its place
+abbrev pub saidOf : Checked → Said
+saidOf (Accepted s) =
+    record {
+      number = 0;
+      place = 0;
+      values = s .layers ∷ s .rows ∷ s .columns ∷ s .records ∷ s .entries ∷ s .«records_at» ∷ s .«list_at» ∷ [];
+    }
+saidOf (Refused refusal place) = record { number = numberOf refusal; place = place; values = [] }

@@ -4,6 +4,7 @@
 use super::rules::Checked;
 use super::rules::Fault;
 use super::rules::Told;
+use super::rules::answer_of;
 use super::rules::check;
 use super::rules::head_fault;
 use super::words::shape_of;
@@ -36,23 +37,26 @@ fn check_area(area: &[u8]) -> Checked
     }
     let s = shape_of(area);
     let size = s.list_at + 2 * s.entries;
-    let Fault::At(refusal, place) = head_fault(area, s, size <= area.len()) else {
-        return check(&area[..size]);
+    let f = head_fault(area, s, size <= area.len());
+    let Fault::Fine = f else {
+        return answer_of(f, s);
     };
-    Checked::Refused(refusal, place)
+    check(&area[..size])
 }
 
 // Where the table in use lies, or the refusal that document 01 asks for.
 pub fn source_of(operator: &[u8], built_in: &[u8]) -> Source
     ensures { λ r. ⌜ r ≡ sourceOf (now (operator .entry)) (now («built_in» .entry)) ⌝ }
 {
-    let Checked::Refused(refusal, place) = check_area(operator) else {
-        return Source::Operator(size_of(operator));
-    };
-    let Checked::Refused(_, _) = check_area(built_in) else {
-        return Source::BuiltIn(size_of(built_in));
-    };
-    Source::Neither(refusal, place)
+    match check_area(operator) {
+        Checked::Accepted(_) => Source::Operator(size_of(operator)),
+        Checked::Refused(refusal, place) => {
+            let Checked::Accepted(_) = check_area(built_in) else {
+                return Source::Neither(refusal, place);
+            };
+            Source::BuiltIn(size_of(built_in))
+        }
+    }
 }
 
 // The table in use: the part of the area that holds it, or an empty part.

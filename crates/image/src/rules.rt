@@ -18,7 +18,7 @@ ghost use Rattle.image.specs.Words.{shapeOf, cellsOf, recordsOf, entries
 ghost use Rattle.image.specs.Record.{actionAt};
 ghost use Rattle.image.specs.Heft.{rowHeft, heftOf, Weighed};
 ghost use Rattle.lists.specs.Lists.{every};
-ghost use Rattle.image.specs.Check.{rule, within, countsGood, offsetsGood, headerGood, headFault, cellFault, form, recordFault, firstFault, bodyFault, faultOf, checkOf, toldOf};
+ghost use Rattle.image.specs.Check.{rule, within, countsGood, offsetsGood, headerGood, headFault, cellFault, form, recordFault, firstFault, bodyFault, faultOf, answer, checkOf, toldOf, saidOf};
 ghost use Rattle.image.specs.Sound.{Framed, Placed, Good, Formed, Rowed};
 ghost use Rattle.refusal.specs.declared.Refusal.the-variants.{Code, Weight};
 ghost use Rattle.image.specs.declared.record.Action.the-variants.{MultipleKeyCodes, MultipleActions};
@@ -430,16 +430,27 @@ fn image_fault(image: &[u8], s: Shape) -> Fault
     body_fault(image, s)
 }
 
+// The answer to a fault: the refusal, and where there is none, the header's numbers.
+pub(crate) fn answer_of(fault: Fault, s: Shape) -> Checked
+    ensures { λ r. ⌜ r ≡ answer fault s ⌝ }
+{
+    match fault {
+        Fault::Fine => Checked::Accepted(s),
+        Fault::At(refusal, place) => Checked::Refused(refusal, place),
+    }
+}
+
 // The check: the header's numbers, or the first fault and its place.
 pub fn check(image: &[u8]) -> Checked
-    ensures { λ r. ⌜ r ≡ checkOf (now (image .entry)) ⌝ }
+    ensures { λ r. ⌜ saidOf r ≡ saidOf (checkOf (now (image .entry))) ⌝ }
 {
     if image.len() < 16 {
         return Checked::Refused(Refusal::Short, 0);
     }
     let s = shape_of(image);
-    let Fault::At(refusal, place) = image_fault(image, s) else {
-        return Checked::Accepted(s);
+    let f = image_fault(image, s);
+    let Fault::Fine = f else {
+        return answer_of(f, s);
     };
-    Checked::Refused(refusal, place)
+    Checked::Accepted(s)
 }

@@ -14,7 +14,7 @@ use Rattle.image.specs.Table.{Table}
 use Rattle.layout.specs.Model.{Model, Waiting, Idle, Waits, Mark, Acted, Begun, Decided, Done, still, withBase, withStates, withWaiting, withQueue}
 use Rattle.layout.specs.Actions.{push, pushCodes, Verdict, Open, Now, verdict, find, begins, doAction, doActions, chosen, decided}
 use Rattle.layout.specs.Steps.{pressed, act, into, intoHold, intoTap, releases, released, overflow, appended, entered, event, older, tickWait, ticked, tick}
-use Rattle.layout.specs.Packed.{noNotes, noted, noteDecision, actedOn, actedIn}
+use Rattle.layout.specs.Packed.{noNotes, noted, notedMarks, noteDecision, actedOn, actedIn}
 use Rattle.layout.specs.declared.run.State.{State}
 use Rattle.layout.specs.declared.run.State.the-variants.{NormalKey, LayerModifier}
 use Rattle.layout.specs.declared.run.Way.{Way}
@@ -129,15 +129,15 @@ module _ (T : Table) where
   tick-acts l = ticked-acts (l .waiting) (older (l .queue)) l
 
 -- marks that name no event leave the one that the notes name
-noted-none : (ms : List Mark) (n : Notes) → length (actedOn ms) ≤ 0 → noted n ms .acted ≡ n .acted
-unfolding noted actedOn
+noted-none : (ms : List Mark) (n : Notes) → length (actedOn ms) ≤ 0 → notedMarks n ms .acted ≡ n .acted
+unfolding notedMarks actedOn
 noted-none [] n h = refl
 noted-none (Acted e ∷ ms) n h = absurd (omega arith)
 noted-none (Begun c ∷ ms) n h = noted-none ms n h
 noted-none (Decided c w ∷ ms) n h = noted-none ms (noteDecision n c w) h
 
-noted-one : (ms : List Mark) (n : Notes) → n .acted ≡ acted.Nothing → length (actedOn ms) ≤ 1 → actedIn (noted n ms .acted) ≡ actedOn ms
-unfolding noted actedOn
+noted-one : (ms : List Mark) (n : Notes) → n .acted ≡ acted.Nothing → length (actedOn ms) ≤ 1 → actedIn (notedMarks n ms .acted) ≡ actedOn ms
+unfolding notedMarks actedOn
 noted-one [] n e h = ap actedIn e
 noted-one (Acted x ∷ ms) n e h = ap actedIn (noted-none ms (record { acted = acted.On x; first = n .first; second = n .second }) (omega arith)) ∙ ap (λ (l : List Event). x ∷ l) (sym (empty (actedOn ms) (omega arith)))
   where
@@ -147,5 +147,5 @@ noted-one (Acted x ∷ ms) n e h = ap actedIn (noted-none ms (record { acted = a
 noted-one (Begun c ∷ ms) n e h = noted-one ms n e h
 noted-one (Decided c w ∷ ms) n e h = noted-one ms (noteDecision n c w) e h
 
-pub noted-acted : (ms : List Mark) → length (actedOn ms) ≤ 1 → actedIn (noted noNotes ms .acted) ≡ actedOn ms
+pub noted-acted : (ms : List Mark) → length (actedOn ms) ≤ 1 → actedIn (notedMarks noNotes ms .acted) ≡ actedOn ms
 noted-acted ms h = noted-one ms noNotes refl h

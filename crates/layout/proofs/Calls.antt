@@ -18,8 +18,9 @@ use Rattle.image.specs.declared.rules.Checked.the-variants as checked
 use Rattle.image.proofs.Accepted.{accepted}
 use Rattle.layout.specs.Model.{Model, Done}
 use Rattle.layout.specs.Steps.{codes}
-use Rattle.layout.specs.Packed.{pad, noSlot, noStacked, statesIn, waitingOf, waitingIn, noNotes, noted}
+use Rattle.layout.specs.Packed.{pad, noSlot, noStacked, statesIn, waitingOf, waitingIn, noNotes, noted, notedMarks}
 use Rattle.layout.specs.Calls.{pack, unpack, stateGood, rule, judgedBy, judgedOf, answerOf, layoutAfter, answered, buffered}
+use Rattle.layout.specs.Replies.{handed, replied}
 use Rattle.layout.specs.Parts.{partsOf, layoutOf}
 use Rattle.layout.specs.Inside.{Parts, Fit, Went, layoutIn}
 use Rattle.layout.specs.declared.run.State.{State}
@@ -111,10 +112,11 @@ packed img parts f =
     λ i. record { «default_layer» = run .«default_layer»; states = slots i; len = count i; waiting = waits i; stacked = events i; queued = queued i }
 
 -- a refused call
-pub call-refused : (j : Judged) (r : Refusal) (place : ℕ) (a : Answer) (done : Done) (lay : Layout) (buffer : List ℕ) → j ≡ judged.Refused r place → a ≡ answer.Refused r place
-    → (record { answer = a; layout = lay } ≡ answered j done lay) × (buffer ≡ buffered j done buffer)
-unfolding answerOf layoutAfter buffered
-call-refused j r place a done lay buffer e f = rw (e, f) (refl, refl)
+pub call-refused : (img : List ℕ) (lay : Layout) (buffer : List ℕ) (step : Model → Done) (r : Refusal) (place : ℕ) (a : Answer)
+    → judgedOf img lay (length buffer) ≡ judged.Refused r place → a ≡ answer.Refused r place
+    → handed (record { answer = a; layout = lay }) buffer ≡ replied img step lay buffer
+unfolding replied answerOf layoutAfter buffered
+call-refused img lay buffer step r place a e f = rw (e, f)
 
 -- a call that was not
 pub call-done : (img : List ℕ) (j : Judged) (n : ℕ) (start end : Parts) (done : Done) (lay : Layout) (buffer after : List ℕ) (a : Answered)
@@ -124,17 +126,21 @@ pub call-done : (img : List ℕ) (j : Judged) (n : ℕ) (start end : Parts) (don
     → (a ≡ answered j done lay) × (after ≡ buffered j done buffer)
 unfolding answerOf layoutAfter buffered
 call-done img j n start end done lay buffer after a e none w f g =
-    let told : end .run .notes ≡ noted noNotes (done .marks) = w .notes ∙ ap (λ (x : Notes). noted x (done .marks)) none in
+    let told : end .run .notes ≡ noted noNotes done = w .notes ∙ ap (λ (x : Notes). noted x done) none in
     let held : statesIn (end .run) ≡ done .layout .states = ap (λ (m : Model). m .states) (w .is) in
     let whole : layoutOf end ≡ pack (done .layout) = packed img end (record { tidy = w .tidy; lined = w .lined }) ∙ ap pack (w .is) in
     rw e (f ∙ (λ i. record { answer = answer.Done (length (codes (held i))) (told i); layout = whole i }), g ∙ ap (λ (s : List State). laid (codes s) buffer) held)
 
 -- such a call, by the step that its parts went
-pub call-went : (img : List ℕ) (lay : Layout) (room n : ℕ) (run : Run) (queue : Queue) (end : Parts) (step : Model → Done) (buffer after : List ℕ) (a : Answered)
-    → Opened img lay room n run queue → Went img (record { run = run; queue = queue }) end (step (layoutIn img (record { run = run; queue = queue })))
+pub call-went : (img : List ℕ) (lay : Layout) (n : ℕ) (run : Run) (queue : Queue) (end : Parts) (step : Model → Done) (buffer after : List ℕ) (a : Answered)
+    → Opened img lay (length buffer) n run queue → Went img (record { run = run; queue = queue }) end (step (layoutIn img (record { run = run; queue = queue })))
     → a ≡ record { answer = answer.Done (length (codes (statesIn (end .run)))) (end .run .notes); layout = layoutOf end }
     → after ≡ laid (codes (statesIn (end .run))) buffer
-    → (a ≡ answered (judgedOf img lay room) (step (unpack img lay)) lay) × (after ≡ buffered (judgedOf img lay room) (step (unpack img lay)) buffer)
-call-went img lay room n run queue end step buffer after a o w f g =
-    call-done img (judgedOf img lay room) n (record { run = run; queue = queue }) end (step (unpack img lay)) lay buffer after a (o .fine) (ap (λ (x : Parts). x .run .notes) (o .start))
+    → handed a after ≡ replied img step lay buffer
+unfolding replied
+call-went img lay n run queue end step buffer after a o w f g =
+    let both =
+    call-done img (judgedOf img lay (length buffer)) n (record { run = run; queue = queue }) end (step (unpack img lay)) lay buffer after a (o .fine) (ap (λ (x : Parts). x .run .notes) (o .start))
     (went-as img w (ap (λ (x : Parts). step (layoutIn img x)) (o .start))) f g
+    in
+    λ i. handed (both .0 i) (both .1 i)

@@ -18,7 +18,7 @@ use Rattle.image.proofs.Accepted.{settles, open-closed, legal-table}
 use Rattle.layout.specs.Model.{Model, Waiting, Idle, Waits, Mark, Acted, Begun, Decided, Done, still, withBase, withStates, withWaiting, withQueue}
 use Rattle.layout.specs.Actions.{push, pushCodes, Verdict, Open, Now, verdict, find, begins, doAction, doActions, decided}
 use Rattle.layout.specs.Steps.{current, held, orDefault, pressed, act, into, intoHold, intoTap, releases, released, overflow, appended, entered, event, older, tickWait, ticked, tick}
-use Rattle.layout.specs.Packed.{waitingOf, holdOf, tapOf, noNotes, noted, decisions, made, madeIn}
+use Rattle.layout.specs.Packed.{waitingOf, holdOf, tapOf, noNotes, noted, notedMarks, decisions, made, madeIn}
 use Rattle.layout.specs.Calls.{unpack}
 use Rattle.layout.specs.declared.run.State.{State}
 use Rattle.layout.specs.declared.run.State.the-variants.{NormalKey, LayerModifier}
@@ -274,8 +274,8 @@ module _ (img : List ℕ) (sound : Sound img) where
 
 -- notes with room for the decisions that marks name take them all
 noted-more : (ms : List Mark) (a : ActedOn) (d e : Decision) → (d ≡ decision.Nothing → e ≡ decision.Nothing) → length (made d ++ made e) + length (decisions ms) ≤ 2
-    → madeIn (noted (record { acted = a; first = d; second = e }) ms) ≡ (made d ++ made e) ++ decisions ms
-unfolding noted decisions
+    → madeIn (notedMarks (record { acted = a; first = d; second = e }) ms) ≡ (made d ++ made e) ++ decisions ms
+unfolding notedMarks decisions
 noted-more [] a d e h n = sym (mathlib.Core.List.append-nil (made d ++ made e))
 noted-more (Acted x ∷ ms) a d e h n = noted-more ms _ d e h n
 noted-more (Begun c ∷ ms) a d e h n = noted-more ms a d e h n
@@ -283,5 +283,5 @@ noted-more (Decided c w ∷ ms) a decision.Nothing e h n = let m = rw (h refl) a
 noted-more (Decided c w ∷ ms) a (decision.Made x v) decision.Nothing h n = noted-more ms a (decision.Made x v) (decision.Made c w) (λ z. cc) (omega arith)
 noted-more (Decided c w ∷ ms) a (decision.Made x v) (decision.Made y u) h n = absurd (omega arith)
 
-pub noted-all : (ms : List Mark) → length (decisions ms) ≤ 2 → madeIn (noted noNotes ms) ≡ decisions ms
+pub noted-all : (ms : List Mark) → length (decisions ms) ≤ 2 → madeIn (notedMarks noNotes ms) ≡ decisions ms
 noted-all ms h = noted-more ms _ decision.Nothing decision.Nothing (λ z. refl) (omega arith)

@@ -1,3 +1,4 @@
+pub mod Told
 pub mod Pads
 pub mod Runs
 pub mod Turns

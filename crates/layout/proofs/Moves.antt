@@ -16,7 +16,7 @@ use Rattle.image.specs.Table.{Table, tableOf}
 use Rattle.layout.specs.Model.{Model, Waiting, Idle, Waits, Done, still, after, withWaiting, withQueue}
 use Rattle.layout.specs.Actions.{find, decided}
 use Rattle.layout.specs.Steps.{act, into, intoHold, intoTap, releases, released, overflow, appended, entered, event, older, tickWait, ticked, tick}
-use Rattle.layout.specs.Packed.{listIn, holdOf, tapOf, waitingOf, modelOf, noted}
+use Rattle.layout.specs.Packed.{listIn, holdOf, tapOf, waitingOf, modelOf, noted, notedMarks}
 use Rattle.layout.specs.Inside.{Parts, Tidy, Lined, Does, Did, Fit, Went, layoutIn}
 use Rattle.layout.specs.declared.run.WaitingState.{WaitingState}
 use Rattle.layout.specs.declared.run.Waiting.{Waiting as WaitingIn}
@@ -41,7 +41,7 @@ module _ (img : List ℕ) where
       let r : Did img b c q (g (x .layout)) = subst (λ (m : Model). Did img b c q (g m)) (d .ran .is) e in
       record {
         tidy = r .tidy;
-        ran = record { is = r .ran .is; notes = r .ran .notes ∙ ap (λ (n : Notes). noted n (g (x .layout) .marks)) (d .ran .notes) ∙ sym (noted-append (a .notes) (x .marks) (g (x .layout) .marks)) };
+        ran = record { is = r .ran .is; notes = r .ran .notes ∙ ap (λ (n : Notes). notedMarks n (g (x .layout) .marks)) (d .ran .notes) ∙ sym (noted-append (a .notes) (x .marks) (g (x .layout) .marks)) };
       }
 
   -- a run by a step, and a queue that holds the list l
@@ -56,7 +56,7 @@ module _ (img : List ℕ) where
   went-as {a} {b} w e = subst (Went img a b) e w
 
   pub went-nothing : (parts : Parts) → Fit parts → Went img parts parts (still (layoutIn img parts))
-  unfolding noted
+  unfolding notedMarks
   went-nothing parts f = record { tidy = f .tidy; lined = f .lined; is = refl; notes = refl }
 
   pub went-then : {a b c : Parts} {x : Done} (g : Model → Done) → Went img a b x → Went img b c (g (layoutIn img b)) → Went img a c (after x (g (x .layout)))
@@ -66,7 +66,7 @@ module _ (img : List ℕ) where
         tidy = r .tidy;
         lined = r .lined;
         is = r .is;
-        notes = r .notes ∙ ap (λ (n : Notes). noted n (g (x .layout) .marks)) (d .notes) ∙ sym (noted-append (a .run .notes) (x .marks) (g (x .layout) .marks));
+        notes = r .notes ∙ ap (λ (n : Notes). notedMarks n (g (x .layout) .marks)) (d .notes) ∙ sym (noted-append (a .run .notes) (x .marks) (g (x .layout) .marks));
       }
 
 -- an event entered, where there is room and where there is not

@@ -10,7 +10,7 @@ use lib.Seq.{length-take-le}
 use Rattle.event.specs.declared.Event.{Event}
 use Rattle.layout.specs.Model.{Model, Mark, Acted, Begun, Decided, Done, still, marked, after, withStates, withWaiting}
 use Rattle.layout.specs.Steps.{appended}
-use Rattle.layout.specs.Packed.{pad, noSlot, noStacked, waitingOf, modelOf, noted, noteDecision}
+use Rattle.layout.specs.Packed.{pad, noSlot, noStacked, waitingOf, modelOf, noted, notedMarks, noteDecision}
 use Rattle.layout.specs.Inside.{Tidy, Lined, Ran, Does}
 use Rattle.layout.specs.declared.run.State.{State}
 use Rattle.layout.specs.declared.run.Slot.{Slot}
@@ -45,8 +45,8 @@ new-queue l arr k h ek ea =
     (record { few = omega arith; clean = ap (pad 16 noStacked) is ∙ sym ea }, is)
 
 -- the notes of two lists of marks, one after the other
-pub noted-append : (n : Notes) (a b : List Mark) → noted n (a ++ b) ≡ noted (noted n a) b
-unfolding noted
+pub noted-append : (n : Notes) (a b : List Mark) → notedMarks n (a ++ b) ≡ notedMarks (notedMarks n a) b
+unfolding notedMarks
 noted-append n [] b = refl
 noted-append n (Acted e ∷ a) b = noted-append _ a b
 noted-append n (Begun c ∷ a) b = noted-append n a b
@@ -55,7 +55,7 @@ noted-append n (Decided c w ∷ a) b = noted-append (noteDecision n c w) a b
 module _ (img : List ℕ) where
   pub new-states : (run : Run) (l arr : List Slot) (k : ℕ) → length l ≤ 64 → k ≡ length l → arr ≡ pad 64 noSlot l
       → Does img run (record { «default_layer» = run .«default_layer»; states = arr; len = k; waiting = run .waiting; notes = run .notes }) (λ m. still (withStates (map (λ (s : Slot). s .state) l) m))
-  unfolding noted
+  unfolding notedMarks
   new-states run l arr k h ek ea =
       let is : take k arr ≡ l = rw (ek, ea) (take-pad 64 noSlot l) in
       record {
@@ -65,11 +65,11 @@ module _ (img : List ℕ) where
 
   pub new-waiting : (run : Run) (w : Waiting) → Tidy run
       → Does img run (record { «default_layer» = run .«default_layer»; states = run .states; len = run .len; waiting = w; notes = run .notes }) (λ m. still (withWaiting (waitingOf img w) m))
-  unfolding noted
+  unfolding notedMarks
   new-waiting run w t = record { tidy = record { few = t .few; clean = t .clean }; ran = λ q. record { is = refl; notes = refl } }
 
   pub does-nothing : (run : Run) → Tidy run → Does img run run still
-  unfolding noted
+  unfolding notedMarks
   does-nothing run t = record { tidy = t; ran = λ q. record { is = refl; notes = refl } }
 
   pub does-as : {a b : Run} {f g : Model → Done} → Does img a b f → ((q : List Stacked) → f (modelOf img a q) ≡ g (modelOf img a q)) → Does img a b g
@@ -82,7 +82,7 @@ module _ (img : List ℕ) where
         ran = λ q.
             let p = d .ran q in
             let r : Ran img b c q (g (f (modelOf img a q) .layout)) = subst (λ (m : Model). Ran img b c q (g m)) (p .is) (e .ran q) in
-            record { is = r .is; notes = r .notes ∙ ap (λ (n : Notes). noted n (g (f (modelOf img a q) .layout) .marks)) (p .notes) ∙ sym (noted-append (a .notes) (f (modelOf img a q) .marks) (g (f (modelOf img a q) .layout) .marks)) };
+            record { is = r .is; notes = r .notes ∙ ap (λ (n : Notes). notedMarks n (g (f (modelOf img a q) .layout) .marks)) (p .notes) ∙ sym (noted-append (a .notes) (f (modelOf img a q) .marks) (g (f (modelOf img a q) .layout) .marks)) };
       }
 
 -- an event more where there is room
@@ -98,5 +98,5 @@ append-room queue e t h =
 -- an event is acted on: that is noted
 pub acted-now : (img : List ℕ) (run : Run) (e : Event) → Tidy run
     → Does img run (record { «default_layer» = run .«default_layer»; states = run .states; len = run .len; waiting = run .waiting; notes = record { acted = acted.On e; first = run .notes .first; second = run .notes .second } }) (λ m. marked (Acted e) (still m))
-unfolding noted
+unfolding notedMarks
 acted-now img run e t = record { tidy = record { few = t .few; clean = t .clean }; ran = λ q. record { is = refl; notes = refl } }

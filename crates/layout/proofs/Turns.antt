@@ -16,7 +16,7 @@ use borrow.Author.Tests.{lt-ltb, le-ltb}
 use Rattle.event.specs.declared.Coord.{Coord}
 use Rattle.layout.specs.Model.{Model, Waiting, Idle, Begun, Decided, Done, still, marked, after, withBase, withStates, withWaiting}
 use Rattle.layout.specs.Actions.{push}
-use Rattle.layout.specs.Packed.{pad, noSlot, statesIn, waitingOf, modelOf, noted, noteDecision}
+use Rattle.layout.specs.Packed.{pad, noSlot, statesIn, waitingOf, modelOf, noted, notedMarks, noteDecision}
 use Rattle.layout.specs.Inside.{Tidy, Does}
 use Rattle.layout.specs.Turns.{stateOf, turnOf, turnIn, Roomy, Turned, Grown}
 use Rattle.layout.specs.declared.run.State.{State}
@@ -92,23 +92,23 @@ model-of q e f g = rw (e, f, g)
 
 module _ (img : List ℕ) (c : Coord) where
   pub turned-nothing : (t : Turn) (a : List ℕ) → Roomy t a → Turned img c t t a a still
-  unfolding noted
+  unfolding notedMarks
   turned-nothing t a r = record { held = refl; roomy = r; is = λ s h q. refl; notes = λ s h q. refl }
 
   pub new-wait : (t : Turn) (a : List ℕ) (w : WaitingIn) → Roomy t a
       → Turned img c t (record { «default_layer» = t .«default_layer»; held = t .held; added = t .added; waiting = w; notes = t .notes }) a a (λ m. still (withWaiting (waitingOf img w) m))
-  unfolding noted
+  unfolding notedMarks
   new-wait t a w r = record { held = refl; roomy = record { few = r .few; long = r .long }; is = λ s h q. refl; notes = λ s h q. refl }
 
   pub new-base : (t : Turn) (a : List ℕ) (v : ℕ) → Roomy t a
       → Turned img c t (record { «default_layer» = v; held = t .held; added = t .added; waiting = t .waiting; notes = t .notes }) a a (λ m. still (withBase v m))
-  unfolding noted
+  unfolding notedMarks
   new-base t a v r = record { held = refl; roomy = record { few = r .few; long = r .long }; is = λ s h q. refl; notes = λ s h q. refl }
 
   -- what waits waits no more, and the decision is noted
   pub settled : (t : Turn) (a : List ℕ) (k : Coord) (way : Way) (notes : Notes) → Roomy t a → notes ≡ noteDecision (t .notes) k way
       → Turned img c t (record { «default_layer» = t .«default_layer»; held = t .held; added = t .added; waiting = waiting.Nothing; notes = notes }) a a (λ m. marked (Decided k way) (still (withWaiting Idle m)))
-  unfolding noted
+  unfolding notedMarks
   settled t a k way notes r e = record { held = refl; roomy = record { few = r .few; long = r .long }; is = λ s h q. refl; notes = λ s h q. e }
 
   pub turned-as : {t u : Turn} {a b : List ℕ} {f g : Model → Done} → Turned img c t u a b f
@@ -118,11 +118,11 @@ module _ (img : List ℕ) (c : Coord) where
         held = d .held;
         roomy = d .roomy;
         is = λ s h q. d .is s h q ∙ ap (λ (r : Done). r .layout) (e s q);
-        notes = λ s h q. d .notes s h q ∙ ap (λ (r : Done). noted (t .notes) (r .marks)) (e s q);
+        notes = λ s h q. d .notes s h q ∙ ap (λ (r : Done). noted (t .notes) r) (e s q);
       }
 
   pub turned-begun : {t u : Turn} {a b : List ℕ} {f : Model → Done} (k : Coord) → Turned img c t u a b f → Turned img c t u a b (λ l. marked (Begun k) (f l))
-  unfolding noted
+  unfolding notedMarks
   turned-begun k d = record { held = d .held; roomy = d .roomy; is = d .is; notes = d .notes }
 
   pub turned-then : {t u v : Turn} {a b d : List ℕ} {f g : Model → Done} → Turned img c t u a b f → Turned img c u v b d g → Turned img c t v a d (λ l. after (f l) (g (f l .layout)))
@@ -134,8 +134,8 @@ module _ (img : List ℕ) (c : Coord) where
         notes = λ s h q.
             let m = f (turnIn img c t a s q) in
             y .notes s (h ∙ sym (x .held)) q
-            ∙ ap (λ (l : Model). noted (u .notes) (g l .marks)) (x .is s h q)
-            ∙ ap (λ (n : Notes). noted n (g (m .layout) .marks)) (x .notes s h q)
+            ∙ ap (λ (l : Model). notedMarks (u .notes) (g l .marks)) (x .is s h q)
+            ∙ ap (λ (n : Notes). notedMarks n (g (m .layout) .marks)) (x .notes s h q)
             ∙ sym (noted-append (t .notes) (m .marks) (g (m .layout) .marks));
       }
 
@@ -143,7 +143,7 @@ module _ (img : List ℕ) (c : Coord) where
     pub held : now .held ≡ start .held
     pub roomy : Roomy now here
     pub same : (s : List State) → length s ≡ start .held → (q : List Stacked) → rest (turnIn img c now here s q) .layout ≡ all (turnIn img c start before s q) .layout
-    pub notes : (s : List State) → length s ≡ start .held → (q : List Stacked) → noted (now .notes) (rest (turnIn img c now here s q) .marks) ≡ noted (start .notes) (all (turnIn img c start before s q) .marks)
+    pub notes : (s : List State) → length s ≡ start .held → (q : List Stacked) → notedMarks (now .notes) (rest (turnIn img c now here s q) .marks) ≡ notedMarks (start .notes) (all (turnIn img c start before s q) .marks)
 
   pub left-start : (t : Turn) (a : List ℕ) (f : Model → Done) → Roomy t a → Left t t a a f f
   left-start t a f r = record { held = refl; roomy = r; same = λ s h q. refl; notes = λ s h q. refl }
@@ -157,21 +157,21 @@ module _ (img : List ℕ) (c : Coord) where
             ap (λ (m : Model). rest′ m .layout) (d .is s (h ∙ sym (w .held)) q) ∙ sym (ap (λ (r : Done). r .layout) (e (turnIn img c t a s q))) ∙ w .same s h q;
         notes = λ s h q.
             let m = f (turnIn img c t a s q) in
-            ap (λ (l : Model). noted (u .notes) (rest′ l .marks)) (d .is s (h ∙ sym (w .held)) q)
-            ∙ ap (λ (n : Notes). noted n (rest′ (m .layout) .marks)) (d .notes s (h ∙ sym (w .held)) q)
+            ap (λ (l : Model). notedMarks (u .notes) (rest′ l .marks)) (d .is s (h ∙ sym (w .held)) q)
+            ∙ ap (λ (n : Notes). notedMarks n (rest′ (m .layout) .marks)) (d .notes s (h ∙ sym (w .held)) q)
             ∙ sym (noted-append (t .notes) (m .marks) (rest′ (m .layout) .marks))
-            ∙ sym (ap (λ (r : Done). noted (t .notes) (r .marks)) (e (turnIn img c t a s q)))
+            ∙ sym (ap (λ (r : Done). noted (t .notes) r) (e (turnIn img c t a s q)))
             ∙ w .notes s h q;
       }
 
   pub left-end : {o t : Turn} {z a : List ℕ} {all rest : Model → Done} → Left o t z a all rest → ((l : Model) → rest l ≡ still l) → Turned img c o t z a all
-  unfolding noted
+  unfolding notedMarks
   left-end {o} {t} {z} {a} {all} {rest} w e =
       record {
         held = w .held;
         roomy = w .roomy;
         is = λ s h q. sym (ap (λ (r : Done). r .layout) (e (turnIn img c t a s q))) ∙ w .same s h q;
-        notes = λ s h q. sym (ap (λ (r : Done). noted (t .notes) (r .marks)) (e (turnIn img c t a s q))) ∙ w .notes s h q;
+        notes = λ s h q. sym (ap (λ (r : Done). noted (t .notes) r) (e (turnIn img c t a s q))) ∙ w .notes s h q;
       }
 
   -- how many states there are, those added among them
@@ -180,7 +180,7 @@ module _ (img : List ℕ) (c : Coord) where
 
   pub push-room : (t : Turn) (a : List ℕ) (n : ℕ) → Roomy t a → t .held + t .added < 64
       → Turned img c t (record { «default_layer» = t .«default_layer»; held = t .held; added = t .added + 1; waiting = t .waiting; notes = t .notes }) a (set a (t .added) n) (push (stateOf c n))
-  unfolding noted
+  unfolding notedMarks
   push-room t a n r lt =
       let more : take (t .added + 1) (set a (t .added) n) ≡ take (t .added) a ++ (n ∷ []) = rw (add-one) (take-suc-set a (t .added) n (omega (arith, r .long))) in
       let yes : (s : List State) → length s ≡ t .held → (q : List Stacked) → push (stateOf c n) (turnIn img c t a s q) ≡ still (withStates ((s ++ map (stateOf c) (take (t .added) a)) ++ (stateOf c n ∷ [])) (turnIn img c t a s q)) =
@@ -191,11 +191,11 @@ module _ (img : List ℕ) (c : Coord) where
         is = λ s h q.
             model-of q refl (ap (λ (x : List ℕ). s ++ map (stateOf c) x) more ∙ ap (λ (x : List State). s ++ x) (map-append (stateOf c) (take (t .added) a) (n ∷ [])) ∙ sym (append-assoc s (map (stateOf c) (take (t .added) a)) (stateOf c n ∷ []))) refl
             ∙ sym (ap (λ (x : Done). x .layout) (yes s h q));
-        notes = λ s h q. sym (ap (λ (x : Done). noted (t .notes) (x .marks)) (yes s h q));
+        notes = λ s h q. sym (ap (λ (x : Done). noted (t .notes) x) (yes s h q));
       }
 
   pub push-full : (t : Turn) (a : List ℕ) (n : ℕ) → Roomy t a → 64 ≤ t .held + t .added → Turned img c t t a a (push (stateOf c n))
-  unfolding noted
+  unfolding notedMarks
   push-full t a n r ge =
       let no : (s : List State) → length s ≡ t .held → (q : List Stacked) → push (stateOf c n) (turnIn img c t a s q) ≡ still (turnIn img c t a s q) =
       λ s h q. push-no (stateOf c n) (turnIn img c t a s q) (omega (arith, count t a s r h)) in
@@ -203,7 +203,7 @@ module _ (img : List ℕ) (c : Coord) where
         held = refl;
         roomy = r;
         is = λ s h q. sym (ap (λ (x : Done). x .layout) (no s h q));
-        notes = λ s h q. sym (ap (λ (x : Done). noted (t .notes) (x .marks)) (no s h q));
+        notes = λ s h q. sym (ap (λ (x : Done). noted (t .notes) x) (no s h q));
       }
 
   pub push-code : {t u : Turn} {a b : List ℕ} (n : ℕ) → n < 256 → Turned img c t u a b (push (stateOf c n)) → Turned img c t u a b (push (NormalKey n c))
@@ -223,7 +223,7 @@ module _ (img : List ℕ) (c : Coord) where
             let first : turnIn img c start a s q ≡ modelOf img run q = ap (λ (x : Turn). turnIn img c x a s q) e ∙ model-of q refl (append-nil s) refl in
             record {
               is = model-of q (g .base) (g .states) (ap (waitingOf img) (g .waiting)) ∙ d .is s h q ∙ ap (λ (m : Model). f m .layout) first;
-              notes = g .notes ∙ d .notes s h q ∙ ap (λ (m : Model). noted (start .notes) (f m .marks)) first ∙ ap (λ (x : Turn). noted (x .notes) (f (modelOf img run q) .marks)) e;
+              notes = g .notes ∙ d .notes s h q ∙ ap (λ (m : Model). notedMarks (start .notes) (f m .marks)) first ∙ ap (λ (x : Turn). notedMarks (x .notes) (f (modelOf img run q) .marks)) e;
             };
       }
 

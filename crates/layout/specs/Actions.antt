@@ -10,7 +10,7 @@ use Rattle.event.specs.declared.Coord.{Coord}
 use Rattle.event.specs.declared.Event.{Event}
 use Rattle.event.specs.declared.Event.the-variants.{Release, Press}
 use Rattle.image.specs.Tree.{Action, Actions, NoOp, Trans, KeyCode, MultipleKeyCodes, MultipleActions, Layer, DefaultLayer, HoldTap, end, _&_}
-use Rattle.layout.specs.Model.{Model, Idle, Waits, Begun, Decided, Done, same, still, marked, after, withBase, withStates, withWaiting}
+use Rattle.layout.specs.Model.{Model, Idle, Waits, Begun, Decided, Done, ageOf, same, still, marked, after, withBase, withStates, withWaiting}
 use Rattle.layout.specs.declared.run.State.{State}
 use Rattle.layout.specs.declared.run.State.the-variants.{NormalKey, LayerModifier}
 use Rattle.layout.specs.declared.run.Way.{Way}
@@ -36,7 +36,7 @@ isRelease c (Press i j) = false
 -- the age of the first queued release of the coordinates
 unfoldable pub find : Coord → List Stacked → Found
 find c [] = None
-find c (q ∷ qs) = cond (isRelease c (q .event)) (At (q .since)) (find c qs)
+find c (q ∷ qs) = cond (isRelease c (q .event)) (At (ageOf q)) (find c qs)
 
 -- what a queued release says of a hold-tap that begins: nothing, or how it is decided at once
 pub data Verdict : Type 0 where

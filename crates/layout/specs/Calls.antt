@@ -18,7 +18,7 @@ use Rattle.image.specs.Tree.{Action, NoOp, Trans, KeyCode, MultipleKeyCodes, Mu
 use Rattle.image.specs.Check.{checkOf}
 use Rattle.image.specs.declared.rules.Checked.{Checked}
 use Rattle.image.specs.declared.rules.Checked.the-variants as checked
-use Rattle.layout.specs.Model.{Model, Done, same}
+use Rattle.layout.specs.Model.{Model, Done, ageOf, same}
 use Rattle.layout.specs.Steps.{codes}
 use Rattle.layout.specs.Packed.{pad, noSlot, noStacked, waitingOf, waitingIn, noNotes, noted}
 use Rattle.layout.specs.declared.run.State.{State}
@@ -68,7 +68,7 @@ legalSlot s = legalState (s .state)
 unfoldable pub falling : List Stacked → Bool
 falling [] = true
 falling (q ∷ []) = true
-falling (q ∷ (next ∷ qs)) = leb (next .since) (q .since) && falling (next ∷ qs)
+falling (q ∷ (next ∷ qs)) = leb (ageOf next) (ageOf q) && falling (next ∷ qs)
 
 -- State: what waits. A number past the last record is no HoldTap, since its tree is NoOp
 abbrev pub mayWait : Action → ℕ → Bool
@@ -128,7 +128,7 @@ judgedOf img lay room = judgedBy (checkOf img) img lay room
 
 -- the answer of a call that did so: the number of its codes, the event acted on and the decisions made
 unfoldable pub answerOf : Judged → Done → Answer
-answerOf (judged.Fine layers) done = answer.Done (length (codes (done .layout .states))) (noted noNotes (done .marks))
+answerOf (judged.Fine layers) done = answer.Done (length (codes (done .layout .states))) (noted noNotes done)
 answerOf (judged.Refused r place) done = answer.Refused r place
 
 -- the layout after it; a refused call leaves it as it was

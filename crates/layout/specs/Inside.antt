@@ -22,7 +22,7 @@ pub record Lined (queue : Queue) : Type 0 where
 -- one run comes from another by a step, where the queue is q
 pub record Ran (img : List ℕ) (start end : Run) (q : List Stacked) (done : Done) : Type 0 where
   pub is : modelOf img end q ≡ done .layout
-  pub notes : end .notes ≡ noted (start .notes) (done .marks)
+  pub notes : end .notes ≡ noted (start .notes) done
 
 -- one run comes from another by a step, whatever is queued
 pub record Does (img : List ℕ) (start end : Run) (step : Model → Done) : Type 0 where
@@ -48,7 +48,7 @@ pub record Went (img : List ℕ) (start end : Parts) (done : Done) : Type 0 wher
   pub tidy : Tidy (end .run)
   pub lined : Lined (end .queue)
   pub is : layoutIn img end ≡ done .layout
-  pub notes : end .run .notes ≡ noted (start .run .notes) (done .marks)
+  pub notes : end .run .notes ≡ noted (start .run .notes) done
 
 -- both parts are in order
 pub record Fit (parts : Parts) : Type 0 where

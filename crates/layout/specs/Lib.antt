@@ -7,3 +7,4 @@ pub mod Reach
 pub mod Inside
 pub mod Parts
 pub mod Turns
+pub mod Replies

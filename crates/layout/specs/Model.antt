@@ -23,6 +23,10 @@ pub record Model : Type 0 where
   pub waiting : Waiting
   pub queue : List Stacked
 
+-- the age of a queued event
+abbrev pub ageOf : Stacked → ℕ
+ageOf q = q .since
+
 -- what a step did, in the order of happening: an event acted on, a hold-tap begun, a hold-tap decided
 pub data Mark : Type 0 where
   Acted : Event → Mark

@@ -8,7 +8,7 @@ use Rattle.event.specs.declared.Coord.{Coord}
 use Rattle.event.specs.declared.Event.{Event}
 use Rattle.event.specs.declared.Event.the-variants.{Release}
 use Rattle.image.specs.Tree.{Action, NoOp, Trans, KeyCode, MultipleKeyCodes, MultipleActions, Layer, DefaultLayer, HoldTap, tree}
-use Rattle.layout.specs.Model.{Model, Waiting, Idle, Waits, Mark, Acted, Begun, Decided}
+use Rattle.layout.specs.Model.{Model, Waiting, Idle, Waits, Mark, Acted, Begun, Decided, Done}
 use Rattle.layout.specs.declared.run.State.{State}
 use Rattle.layout.specs.declared.run.State.the-variants.{NormalKey}
 use Rattle.layout.specs.declared.run.Slot.{Slot}
@@ -93,11 +93,15 @@ noteDecision notes c way =
     record { acted = notes .acted; first = two .0; second = two .1 }
 
 -- the marks of a step, in their order, put into the notes
-unfoldable pub noted : Notes → List Mark → Notes
-noted notes [] = notes
-noted notes (Acted e ∷ marks) = noted (record { acted = acted.On e; first = notes .first; second = notes .second }) marks
-noted notes (Begun c ∷ marks) = noted notes marks
-noted notes (Decided c way ∷ marks) = noted (noteDecision notes c way) marks
+unfoldable pub notedMarks : Notes → List Mark → Notes
+notedMarks notes [] = notes
+notedMarks notes (Acted e ∷ marks) = notedMarks (record { acted = acted.On e; first = notes .first; second = notes .second }) marks
+notedMarks notes (Begun c ∷ marks) = notedMarks notes marks
+notedMarks notes (Decided c way ∷ marks) = notedMarks (noteDecision notes c way) marks
+
+-- what a step did, put into the notes
+abbrev pub noted : Notes → Done → Notes
+noted notes done = notedMarks notes (done .marks)
 
 -- the decisions that marks name, in their order, and those that notes name
 unfoldable pub decisions : List Mark → List (Coord × Way)

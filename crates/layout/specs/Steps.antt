@@ -12,7 +12,7 @@ use Rattle.event.specs.declared.Event.{Event}
 use Rattle.event.specs.declared.Event.the-variants.{Release, Press}
 use Rattle.image.specs.Tree.{Action, NoOp, Trans, KeyCode, MultipleKeyCodes, MultipleActions, Layer, DefaultLayer, HoldTap}
 use Rattle.image.specs.Table.{Table}
-use Rattle.layout.specs.Model.{Model, Waiting, Idle, Waits, Acted, Done, same, still, marked, after, withStates, withWaiting, withQueue}
+use Rattle.layout.specs.Model.{Model, Waiting, Idle, Waits, Acted, Done, ageOf, same, still, marked, after, withStates, withWaiting, withQueue}
 use Rattle.layout.specs.Actions.{isRelease, find, doAction, decided}
 use Rattle.layout.specs.declared.run.State.{State}
 use Rattle.layout.specs.declared.run.State.the-variants.{NormalKey, LayerModifier}
@@ -95,7 +95,7 @@ released T e l = cond (releases e (l .waiting)) (intoTap T (l .waiting) l) (stil
 
 -- event, with a full queue: what waits, then the event that left
 unfoldable pub overflow : Table → Stacked → Model → Done
-overflow T q l = let r = intoHold T (l .waiting) l in after r (act T (q .event) (q .since) (r .layout))
+overflow T q l = let r = intoHold T (l .waiting) l in after r (act T (q .event) (ageOf q) (r .layout))
 
 -- event, its start: the new event stands last
 abbrev pub appended : Event → List Stacked → List Stacked
@@ -113,7 +113,7 @@ event T e l = let r = entered T e (l .queue) l in after r (released T e (r .layo
 
 -- tick, its start: the ages
 abbrev pub olderOne : Stacked → Stacked
-olderOne q = record { event = q .event; since = min (q .since + 1) 65535 }
+olderOne q = record { event = q .event; since = min (ageOf q + 1) 65535 }
 
 abbrev pub older : List Stacked → List Stacked
 older q = map olderOne q
@@ -127,7 +127,7 @@ tickWait T (suc k) l = still l
 unfoldable pub ticked : Table → Waiting → List Stacked → Model → Done
 ticked T (Waits c left i hold tap) q l = tickWait T (left - 1) (withWaiting (Waits c (left - 1) i hold tap) (withQueue q l))
 ticked T Idle [] l = still (withQueue [] l)
-ticked T Idle (q ∷ qs) l = act T (q .event) (q .since) (withQueue qs l)
+ticked T Idle (q ∷ qs) l = act T (q .event) (ageOf q) (withQueue qs l)
 
 unfoldable pub tick : Table → Model → Done
 tick T l = ticked T (l .waiting) (older (l .queue)) l

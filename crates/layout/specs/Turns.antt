@@ -40,7 +40,7 @@ pub record Turned (img : List ℕ) (c : Coord) (start end : Turn) (before after 
   pub held : end .held ≡ start .held
   pub roomy : Roomy end after
   pub is : (s : List State) → length s ≡ start .held → (q : List Stacked) → turnIn img c end after s q ≡ step (turnIn img c start before s q) .layout
-  pub notes : (s : List State) → length s ≡ start .held → (q : List Stacked) → end .notes ≡ noted (start .notes) (step (turnIn img c start before s q) .marks)
+  pub notes : (s : List State) → length s ≡ start .held → (q : List Stacked) → end .notes ≡ noted (start .notes) (step (turnIn img c start before s q))
 
 -- a run with what a turn of it left
 pub record Grown (run : Run) (turn : Turn) (added : List ℕ) (c : Coord) (end : Run) : Type 0 where

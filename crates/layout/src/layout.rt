@@ -27,11 +27,11 @@ ghost use mathlib.Core.Path.{_≡_};
 ghost use Prim.Native.Nat.{_≤_};
 ghost use lib.ListN.{length};
 ghost use Rattle.lists.specs.Lists.{laid};
-ghost use Rattle.image.specs.Table.{tableOf};
-ghost use Rattle.layout.specs.Model.{fresh, still};
-ghost use Rattle.layout.specs.Steps.{codes as codesOf, event as eventOf, tick as tickOf};
+ghost use Rattle.layout.specs.Model.{fresh};
+ghost use Rattle.layout.specs.Steps.{codes as codesOf};
 ghost use Rattle.layout.specs.Packed.{statesIn};
-ghost use Rattle.layout.specs.Calls.{pack, unpack, judgedOf, answerOf, answered, buffered, toldOf};
+ghost use Rattle.layout.specs.Calls.{pack, judgedOf, toldOf};
+ghost use Rattle.layout.specs.Replies.{handed, shown, eventReply, tickReply, keycodesReply};
 ghost use Rattle.layout.specs.Parts.{partsOf, layoutOf, judgedAs, refusedAs};
 ghost use Rattle.layout.specs.Inside.{Tidy};
 
@@ -238,7 +238,7 @@ impl Layout {
 
     // A key event. The codes go to the start of the buffer, in state order.
     pub fn event(self, image: &[u8], event: Event, out: &mut [u8]) -> Answered
-        ensures { λ r. ⌜ (r ≡ answered (judgedOf (now (image .entry)) self (length (now (out .entry)))) (eventOf (tableOf (now (image .entry))) event (unpack (now (image .entry)) self)) self) × (now (out .exit) ≡ buffered (judgedOf (now (image .entry)) self (length (now (out .entry)))) (eventOf (tableOf (now (image .entry))) event (unpack (now (image .entry)) self)) (now (out .entry))) ⌝ }
+        ensures { λ r. ⌜ handed r (now (out .exit)) ≡ eventReply (now (image .entry)) event self (now (out .entry)) ⌝ }
     {
         let run = run_of(self);
         let queue = queue_of(self);
@@ -265,7 +265,7 @@ impl Layout {
 
     // One tick of the clock, a millisecond on the panel.
     pub fn tick(self, image: &[u8], out: &mut [u8]) -> Answered
-        ensures { λ r. ⌜ (r ≡ answered (judgedOf (now (image .entry)) self (length (now (out .entry)))) (tickOf (tableOf (now (image .entry))) (unpack (now (image .entry)) self)) self) × (now (out .exit) ≡ buffered (judgedOf (now (image .entry)) self (length (now (out .entry)))) (tickOf (tableOf (now (image .entry))) (unpack (now (image .entry)) self)) (now (out .entry))) ⌝ }
+        ensures { λ r. ⌜ handed r (now (out .exit)) ≡ tickReply (now (image .entry)) self (now (out .entry)) ⌝ }
     {
         let run = run_of(self);
         let queue = queue_of(self);
@@ -291,7 +291,7 @@ impl Layout {
 
     // The key codes of the layout as it stands.
     pub fn keycodes(self, image: &[u8], out: &mut [u8]) -> Answer
-        ensures { λ r. ⌜ (r ≡ answerOf (judgedOf (now (image .entry)) self (length (now (out .entry)))) (still (unpack (now (image .entry)) self))) × (now (out .exit) ≡ buffered (judgedOf (now (image .entry)) self (length (now (out .entry)))) (still (unpack (now (image .entry)) self)) (now (out .entry))) ⌝ }
+        ensures { λ r. ⌜ shown r self (now (out .exit)) ≡ keycodesReply (now (image .entry)) self (now (out .entry)) ⌝ }
     {
         let run = run_of(self);
         let queue = queue_of(self);

@@ -146,17 +146,14 @@ fn answer_all(image: &[u8], input: &mut [u8; INPUT], line: &mut [u8; LINE]) {
 
 fn with_image(image: &[u8]) {
     let checked = image::check(image);
-    match checked {
-        Checked::Accepted(_) => {
-            let mut input = [0u8; INPUT];
-            let mut line = [0u8; LINE];
-            answer_all(image, &mut input, &mut line);
-        }
-        Checked::Refused(_, _) => {
-            let told = checked.told();
-            write(refused(told.number, told.place));
-        }
-    }
+    let Checked::Accepted(_) = checked else {
+        let told = checked.told();
+        write(refused(told.number, told.place));
+        return;
+    };
+    let mut input = [0u8; INPUT];
+    let mut line = [0u8; LINE];
+    answer_all(image, &mut input, &mut line);
 }
 
 // The whole program. Nothing can be promised of what it reads and writes: it ends, and is safe.

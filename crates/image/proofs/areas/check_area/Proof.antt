@@ -2,7 +2,8 @@
 use Prim.Native.Nat.{_*_, _+_}
 use Rattle.image.proofs.Chosen.{area-at, area-fine, head-size}
 use Rattle.image.proofs.Faults.{rule-no, rule-yes}
-use Rattle.image.specs.Check.{checkOf, headFault}
+use Rattle.image.proofs.Said.{said-one}
+use Rattle.image.specs.Check.{answer, checkOf, headFault}
 use Rattle.image.specs.Use.{areaFault, areaOf}
 use Rattle.image.specs.Words.{sizeOf}
 use borrow.Author.Needs.{needs}
@@ -46,20 +47,22 @@ returns c = area-at _ _ _ _ (sym (rule-no _ _ _ _ (lt-leb _ _ (c .if1 .taken))))
 head-fault-requires : tie.Need-head-fault-requires
 head-fault-requires c κs = (omega arith, c .before .before .shape-of .ensures .0)
 
+returns-2 : tie.Need-returns-2
+unfolding areaOf answer
+returns-2 c =
+    let told = c .before .enum-told2 .given .1 in
+    c .answer-of .ensures ∙ rw told (area-at _ _ _ _ (faults (c .before .before .before) _ told))
+
 slice-aggregate-check : tie.Need-slice-aggregate-check
 slice-aggregate-check c =
     let h = c .before .before .before in
     sym (length-take-le _ _ (omega (arith, size (at-header h), head-size _ (header h _ (c .before .enum-told .given .1)))))
 
-returns-2 : tie.Need-returns-2
-unfolding areaOf
-returns-2 c =
-    let h = c .before .before .before .before in
-    c .check .ensures ∙ ap (λ k. checkOf (take k (now (lent (at-header h) .args .area)))) (size (at-header h)) ∙ area-fine _ _ (faults h _ (c .before .before .enum-told .given .1))
-
 returns-3 : tie.Need-returns-3
 unfolding areaOf
-returns-3 c = area-at _ _ _ _ (faults (c .before .before .before) _ (c .before .refusal .given .1))
+returns-3 c =
+    let h = c .before .before .before .before in
+    said-one _ _ (c .check .ensures) ∙ ap (λ k. checkOf (take k (now (lent (at-header h) .args .area)))) (size (at-header h)) ∙ area-fine _ _ (faults h _ (c .before .before .enum-told .given .1))
 
 pub check-area-spec : {M : Type 1} → statement M
-check-area-spec = tie.close (tie.spec returns (λ c κs. search needs) (λ c. search needs) (λ c. search needs) head-fault-requires (λ c. search needs) (λ c. search needs) slice-aggregate-check (λ c κs. search needs) returns-2 returns-3)
+check-area-spec = tie.close (tie.spec returns (λ c κs. search needs) (λ c. search needs) (λ c. search needs) head-fault-requires (λ c. search needs) (λ c. search needs) (λ c κs. search needs) returns-2 slice-aggregate-check (λ c κs. search needs) returns-3)

@@ -54,7 +54,7 @@ returns c =
     let j = c .before .before .before in
     let s = start j in
     let told = c .before .enum-told .given .1 in
-    call-refused (judgedOf (s .args .image .now) (s .args .self) (length (s .args .out .now))) _ _ (c .refused-as .result) _ (s .args .self) (s .args .out .now) (judged-as j ∙ told) (c .refused-as .ensures ∙ ap refusedAs told)
+    call-refused (s .args .image .now) (s .args .self) (s .args .out .now) (event (tableOf (s .args .image .now)) (s .args .event)) _ _ (c .refused-as .result) (judged-as j ∙ told) (c .refused-as .ensures ∙ ap refusedAs told)
 
 append-requires : tie.Need-append-requires
 append-requires c κs = (goes (c .before) .fit .lined, c .if1 .taken)
@@ -82,7 +82,7 @@ returns-2 c =
     let long = list-length (parts k .queue) (o .fit .lined) in
     let still-there = did-of img q (does-nothing img run (o .fit .tidy)) in
     let none : releases e (waitingOf img (run .waiting)) ≡ false = sym (w .releases-waiting .ensures img) ∙ not-true _ (b .before .before .if2 .taken) in
-    call-went img (s .args .self) (length (s .args .out .now)) _ run (parts k .queue) (record { run = run; queue = a .append .result }) (event T e) (s .args .out .now) _ (b .answer-of .result) o
+    call-went img (s .args .self) _ run (parts k .queue) (record { run = run; queue = a .append .result }) (event T e) (s .args .out .now) _ (b .answer-of .result) o
     (event-goes img (parts k) e (a .append .result) run (appended e (listIn (parts k .queue))) still (a .append .ensures .0) (a .append .ensures .1)
     (entered-room T e (listIn (parts k .queue)) (layoutIn img (parts k)) (omega (arith, long, t .if1 .taken)))
     (did-then img (released T e) still-there (did-as img still-there (sym (released-no T e (modelOf img run q) none)))))
@@ -111,7 +111,7 @@ returns-3 c =
     let o = goes k in
     let run = parts k .run in
     let long = list-length (parts k .queue) (o .fit .lined) in
-    call-went img (s .args .self) (length (s .args .out .now)) _ run (parts k .queue) (record { run = r .tap-released .result; queue = a .append .result }) (event T e) (s .args .out .now) _ (b .answer-of2 .result) o
+    call-went img (s .args .self) _ run (parts k .queue) (record { run = r .tap-released .result; queue = a .append .result }) (event T e) (s .args .out .now) _ (b .answer-of2 .result) o
     (event-goes img (parts k) e (a .append .result) (r .tap-released .result) (appended e (listIn (parts k .queue))) still (a .append .ensures .0) (a .append .ensures .1)
     (entered-room T e (listIn (parts k .queue)) (layoutIn img (parts k)) (omega (arith, long, t .if1 .taken)))
     (did-then img (released T e) (did-of img (listIn (a .append .result)) (does-nothing img run (o .fit .tidy))) (r .tap-released .ensures)))
@@ -164,7 +164,7 @@ returns-4 c =
     let old = getD (q .stacked) 0 noStacked in
     let long = list-length q (o .fit .lined) in
     let first : old ≡ getD (listIn q) 0 noStacked = sym (getD-take (q .queued) (q .stacked) 0 noStacked (omega (arith, l .if1 .left))) in
-    call-went img (s .args .self) (length (s .args .out .now)) _ run q (record { run = r .tap-released2 .result; queue = a .append2 .result }) (event T e) (s .args .out .now) _ (b .answer-of3 .result) o
+    call-went img (s .args .self) _ run q (record { run = r .tap-released2 .result; queue = a .append2 .result }) (event T e) (s .args .out .now) _ (b .answer-of3 .result) o
     (event-goes img (parts k) e (a .append2 .result) (r .tap-released2 .result) (appended e (drop 1 (listIn q))) (overflow T old) (a .append2 .ensures .0) (a .append2 .ensures .1 ∙ ap (appended e) (f .shift .ensures .1))
     (entered-full T e (listIn q) (layoutIn img (parts k)) noStacked (omega (arith, long, l .if1 .left)) ∙ sym (ap (λ (x : Stacked). overflow T x (modelOf img run (appended e (drop 1 (listIn q))))) first))
     (did-then img (released T e) (v .overflow .ensures) (r .tap-released2 .ensures)))

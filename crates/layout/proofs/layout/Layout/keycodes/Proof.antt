@@ -3,11 +3,11 @@ use Prim.Native.Nat.{ℕ}
 use mathlib.Core.Path.{_≡_, sym, ap, _∙_}
 use borrow.Author.Needs.{needs}
 use lib.ListN.{length, length-map}
-use Rattle.layout.specs.Calls.{judgedOf, unpack}
+use Rattle.layout.specs.Calls.{judgedOf}
 use Rattle.layout.specs.Parts.{refusedAs}
 use Rattle.layout.specs.declared.layout.Judged.the-variants as judged
 use Rattle.layout.specs.Model.{still}
-use Rattle.layout.specs.declared.layout.Answered.{Answered}
+use Rattle.layout.specs.Replies.{Reply}
 use Rattle.layout.proofs.Calls.{Opened, judged-so, opened, call-refused, call-went}
 use Rattle.layout.proofs.Moves.{went-nothing}
 use Rattle.layout.proofs.layout.Layout.keycodes.Statement.{statement}
@@ -35,8 +35,8 @@ returns c =
     let j = c .before .before .before in
     let s = start j in
     let told = c .before .enum-told2 .given .1 in
-    let both = call-refused (judgedOf (s .args .image .now) (s .args .self) (length (s .args .out .now))) _ _ (c .refused-as .result) (still (unpack (s .args .image .now) (s .args .self))) (s .args .self) (s .args .out .now) (judged-as j ∙ told) (c .refused-as .ensures ∙ ap refusedAs told) in
-    (ap (λ (x : Answered). x .answer) (both .0), both .1)
+    let both = call-refused (s .args .image .now) (s .args .self) (s .args .out .now) still _ _ (c .refused-as .result) (judged-as j ∙ told) (c .refused-as .ensures ∙ ap refusedAs told) in
+    ap (λ (x : Reply). record { told = x .told; layout = s .args .self; buffer = x .buffer }) both
 
 answer-of-requires : tie.Need-answer-of-requires
 answer-of-requires c κs =
@@ -53,8 +53,8 @@ returns-2 c =
     let s = start j in
     let img = s .args .image .now in
     let o = opens j _ (a .before .before .enum-told .given .1) in
-    let both = call-went img (s .args .self) (length (s .args .out .now)) _ _ _ _ still (s .args .out .now) _ (a .answer-of .result) o (went-nothing img _ (o .fit)) (a .answer-of .ensures .0) (a .answer-of .ensures .1) in
-    (ap (λ (x : Answered). x .answer) (both .0), both .1)
+    let both = call-went img (s .args .self) _ _ _ _ still (s .args .out .now) _ (a .answer-of .result) o (went-nothing img _ (o .fit)) (a .answer-of .ensures .0) (a .answer-of .ensures .1) in
+    ap (λ (x : Reply). record { told = x .told; layout = s .args .self; buffer = x .buffer }) both
 
 pub keycodes-spec : {M : Type 1} → statement M
 keycodes-spec = tie.close (tie.spec (λ c κs. search needs) (λ c κs. search needs) (λ c κs. search needs) (λ c. search needs) (λ c. search needs) (λ c κs. search needs) returns answer-of-requires same-length returns-2)

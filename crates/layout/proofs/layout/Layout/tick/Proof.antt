@@ -50,7 +50,7 @@ returns c =
     let j = c .before .before .before in
     let s = start j in
     let told = c .before .enum-told .given .1 in
-    call-refused (judgedOf (s .args .image .now) (s .args .self) (length (s .args .out .now))) _ _ (c .refused-as .result) _ (s .args .self) (s .args .out .now) (judged-as j ∙ told) (c .refused-as .ensures ∙ ap refusedAs told)
+    call-refused (s .args .image .now) (s .args .self) (s .args .out .now) (tick (tableOf (s .args .image .now))) _ _ (c .refused-as .result) (judged-as j ∙ told) (c .refused-as .ensures ∙ ap refusedAs told)
 
 age-requires : tie.Need-age-requires
 age-requires c κs = opens (c .before .before .before) _ (c .before .judged .given .1) .fit .lined
@@ -72,7 +72,7 @@ returns-2 c =
     let o = goes a in
     let parts : Parts = record { run = j .before .before .run-of .result; queue = j .before .queue-of .result } in
     let long = list-length (a .age .result) (a .age .ensures .0) in
-    call-went img (s .args .self) (length (s .args .out .now)) _ (parts .run) (parts .queue) (record { run = parts .run; queue = a .age .result }) (tick (tableOf img)) (s .args .out .now) _ (b .answer-of .result) o
+    call-went img (s .args .self) _ (parts .run) (parts .queue) (record { run = parts .run; queue = a .age .result }) (tick (tableOf img)) (s .args .out .now) _ (b .answer-of .result) o
     (went-as img (went-did img parts (parts .run) (a .age .result) (older (listIn (parts .queue))) still (a .age .ensures .0) (a .age .ensures .1) (did-of img _ (does-nothing img (parts .run) (o .fit .tidy))))
     (sym (tick-none (tableOf img) (layoutIn img parts) (ap (waitingOf img) (t .before .enum-told2 .given .1)) (sym (ap length (a .age .ensures .1)) ∙ long ∙ t .if1 .taken))))
     (b .answer-of .ensures .0) (b .answer-of .ensures .1)
@@ -103,7 +103,7 @@ returns-3 c =
     let long = list-length (a .age .result) (a .age .ensures .0) in
     let some : 0 < a .age .result .queued = omega (arith, n .if1 .left) in
     let first : old ≡ getD q 0 noStacked = sym (getD-take (a .age .result .queued) (a .age .result .stacked) 0 noStacked some) ∙ ap (λ (x : List Stacked). getD x 0 noStacked) (a .age .ensures .1) in
-    call-went img (s .args .self) (length (s .args .out .now)) _ (parts .run) (parts .queue) (record { run = u .unstack .result; queue = f .shift .result }) (tick T) (s .args .out .now) _ (b .answer-of2 .result) (goes a)
+    call-went img (s .args .self) _ (parts .run) (parts .queue) (record { run = u .unstack .result; queue = f .shift .result }) (tick T) (s .args .out .now) _ (b .answer-of2 .result) (goes a)
     (went-as img (went-did img parts (u .unstack .result) (f .shift .result) (drop 1 q) (act T (old .event) (old .since)) (f .shift .ensures .0) (f .shift .ensures .1 ∙ ap (drop 1) (a .age .ensures .1)) (u .unstack .ensures))
     (ap (λ (x : Stacked). act T (x .event) (x .since) (modelOf img (parts .run) (drop 1 q))) first
     ∙ sym (tick-some T (layoutIn img parts) (ap (waitingOf img) (n .before .enum-told2 .given .1)) (omega (arith, ap length (a .age .ensures .1))) noStacked)))
@@ -128,7 +128,7 @@ returns-4 c =
     let s = start j in
     let img = s .args .image .now in
     let parts : Parts = record { run = j .before .before .run-of .result; queue = j .before .queue-of .result } in
-    call-went img (s .args .self) (length (s .args .out .now)) _ (parts .run) (parts .queue) (record { run = t .tick-waiting .result; queue = a .age .result }) (tick (tableOf img)) (s .args .out .now) _ (b .answer-of3 .result) (goes a)
+    call-went img (s .args .self) _ (parts .run) (parts .queue) (record { run = t .tick-waiting .result; queue = a .age .result }) (tick (tableOf img)) (s .args .out .now) _ (b .answer-of3 .result) (goes a)
     (tick-goes img parts _ (a .age .result) (t .tick-waiting .result) (o .waiting .given .1) (a .age .ensures .0) (a .age .ensures .1) (t .tick-waiting .ensures))
     (b .answer-of3 .ensures .0) (b .answer-of3 .ensures .1)
 
