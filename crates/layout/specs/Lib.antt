@@ -2,9 +2,9 @@ pub mod Model
 pub mod Actions
 pub mod Steps
 pub mod Packed
+pub mod State
+pub mod Notes
 pub mod Calls
 pub mod Reach
 pub mod Inside
-pub mod Parts
-pub mod Turns
-pub mod Replies
+pub mod Effects

@@ -6,7 +6,8 @@ use Rattle.event.specs.declared.Event.{Event}
 use Rattle.image.specs.Table.{tableOf}
 use Rattle.layout.specs.Model.{fresh}
 use Rattle.layout.specs.Steps as step
-use Rattle.layout.specs.Calls.{pack, unpack, judgedOf, layoutAfter}
+use Rattle.layout.specs.Packed.{pack, unpack}
+use Rattle.layout.specs.Calls.{judgedOf, layoutAfter}
 use Rattle.layout.specs.declared.layout.Layout.{Layout}
 
 pub data Reached (img : List ℕ) : Layout → Type 0 where
