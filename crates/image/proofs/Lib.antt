@@ -3,7 +3,7 @@ pub mod Faults
 pub mod Header
 pub mod Entries
 pub mod Trees
-pub mod Hefts
+pub mod Children
 pub mod Records
 pub mod Chosen
 pub mod Accepted

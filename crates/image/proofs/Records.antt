@@ -13,20 +13,21 @@ use Rattle.lists.specs.Lists.{every}
 use Rattle.lists.proofs.Laws.{both-true}
 use Rattle.codes.specs.Codes.{legal}
 use Rattle.refusal.specs.declared.Refusal.the-variants as refusal
-use Rattle.image.specs.Words.{recordsOf, entriesOf, fieldOf, entries, wordAt, wordsFrom}
+use Rattle.image.specs.Inside.{Placed, Formed, wordsFrom, childrenOf}
+use Rattle.image.specs.Words.{recordsOf, entriesOf, fieldOf, entries, wordAt}
 use Rattle.image.specs.Record.{actionOf, actionAt, codesIn, childrenIn, listEnd}
 use Rattle.image.specs.Tree.{Action, end, _&_, named, meaning, tree, open?, someOpen, shutButLast, settled, weight, weights}
 use Rattle.image.specs.Check.{rule, form, formGood, recordFault}
-use Rattle.image.specs.Heft.{openMark, highMark, hefts, heftOf}
-use Rattle.image.specs.Sound.{Placed, Good, Formed}
+use Rattle.image.specs.declared.rules.Children.{Children}
+use Rattle.image.specs.Sound.{Good}
 use Rattle.image.specs.declared.record.Action.{Action as Record}
 use Rattle.image.specs.declared.record.Action.the-variants as code
 use Rattle.image.specs.declared.rules.Fault.{Fault}
 use Rattle.image.specs.declared.rules.Fault.the-variants.{Fine, At}
-use Rattle.image.proofs.Faults.{and-true, or-false, not-or, rule-no, rule-yes, rule-fine, rule-with}
+use Rattle.image.proofs.Faults.{and-true, and-false, or-false, not-or, rule-no, rule-yes, rule-fine, rule-with}
 use Rattle.image.proofs.Entries.{length-entries, length-words, words-last, all-two}
 use Rattle.image.proofs.Trees.{tree-step, action-inside, by-kind}
-use Rattle.image.proofs.Hefts.{heft-most, sum-high, sum-low, sum-open, sum-shut, last-high, last-low, last-open, last-shut, last-weighs, entries-row, pair-words}
+use Rattle.image.proofs.Children.{Lower, sum-high, sum-lower, sum-few, every-one, every-last, shut-last, weights-last, entries-at, pair-words}
 
 -- the entries of a record whose form is good are in the list
 form-lists : (e k a b c : ℕ) → form e k a b c ≡ true → ((k ≡ 3) ⊎ (k ≡ 4)) → a + b ≤ e
@@ -125,69 +126,73 @@ module _ (img : List ℕ) (r l n first count : ℕ) (p : Placed img r l) (f : Fo
       omega (arith, listed, length-words img (l + 2 * first) (count - 1), p .framed .entries)
 
   all-rules : rule (every (λ k. ltb k n) (mostOf img l first count ++ lastOf img l first count ∷ [])) refusal.Child n (rule (shutButLast (named (tree img) (mostOf img l first count ++ lastOf img l first count ∷ []))) refusal.Nested n (rule (leb (1 + weights (named (tree img) (mostOf img l first count ++ lastOf img l first count ∷ []))) 64) refusal.Weight n Fine)) ≡ recordFault img n
-  all-rules = rw (entries-row img r l first count p ∙ words-last img (l + 2 * first) count some) at (actions-rules img n f first count is)
+  all-rules = rw (entries-at img r l first count p ∙ words-last img (l + 2 * first) count some) at (actions-rules img n f first count is)
 
-  module _ {most last : ℕ} (em : most ≡ heftOf img n (mostOf img l first count)) (el : last ≡ heftOf img n (wordsFrom img (l + 2 * first + 2 * (count - 1)) 1)) where
-    one : last ≡ heftOf img n (lastOf img l first count ∷ [])
+  module _ {most last : Children} (em : most ≡ childrenOf img n (mostOf img l first count)) (el : last ≡ childrenOf img n (wordsFrom img (l + 2 * first + 2 * (count - 1)) 1)) where
+    one : last ≡ childrenOf img n (lastOf img l first count ∷ [])
     unfolding wordsFrom
     one = el
 
-    pub sums-small : (most ≤ highMark) × (last ≤ highMark)
-    sums-small = (omega (arith, em, heft-most img n (mostOf img l first count) f (omega (arith, few))), omega (arith, one, heft-most img n (lastOf img l first count ∷ []) f (omega arith)))
+    pub sums-small : (most .weight ≤ 65536) × (last .weight ≤ 64)
+    sums-small = (omega (arith, few, sum-few img n (mostOf img l first count) most f em), omega (arith, sum-few img n (lastOf img l first count ∷ []) last f one))
 
-    pub sums-high : highMark ≤ most + last → At refusal.Child n ≡ recordFault img n
-    sums-high h = rule-no _ _ _ _ (last-high img n f (mostOf img l first count) (lastOf img l first count) few (omega (arith, em, one))) ∙ all-rules
+    pub most-high : most .lower ≡ false → At refusal.Child n ≡ recordFault img n
+    most-high h = rule-no _ _ _ _ (every-last (λ k. ltb k n) (mostOf img l first count) (lastOf img l first count) ∙ rw (sum-high img n (mostOf img l first count) most em h)) ∙ all-rules
 
-    module _ (low : most + last < highMark) where
-      small : heftOf img n (mostOf img l first count) + heftOf img n (lastOf img l first count ∷ []) < highMark
-      small = omega (arith, em, one)
+    pub last-high : last .lower ≡ false → At refusal.Child n ≡ recordFault img n
+    last-high h = rule-no _ _ _ _ (every-last (λ k. ltb k n) (mostOf img l first count) (lastOf img l first count) ∙ rw (sym (every-one (λ k. ltb k n) (lastOf img l first count)) ∙ sum-high img n (lastOf img l first count ∷ []) last one h) (and-false (every (λ k. ltb k n) (mostOf img l first count)))) ∙ all-rules
 
-      pub sums-open : openMark ≤ most → At refusal.Nested n ≡ recordFault img n
-      sums-open h = rule-yes _ _ _ _ (last-low img n f _ _ few small) (rule-no _ _ _ _ (last-open img n f _ _ few small (omega (arith, em)))) ∙ all-rules
+    module _ (a : most .lower ≡ true) (b : last .lower ≡ true) where
+      x : Lower img n (mostOf img l first count) most
+      x = sum-lower img n (mostOf img l first count) most em a
 
-      module _ (shut : most < openMark) where
-        weighed : (w : ℕ) → weights (named (tree img) (mostOf img l first count ++ lastOf img l first count ∷ [])) ≡ w → rule (leb (1 + w) 64) refusal.Weight n Fine ≡ recordFault img n
-        weighed w e = rule-yes _ _ _ _ (last-low img n f _ _ few small) (rule-yes _ _ _ _ (last-shut img n f _ _ few small (omega (arith, em))) (ap (λ w. rule (leb (1 + w) 64) refusal.Weight n Fine) (sym e))) ∙ all-rules
+      y : Lower img n (lastOf img l first count ∷ []) last
+      y = sum-lower img n (lastOf img l first count ∷ []) last one b
 
-        pub sums-weigh-open : openMark ≤ last → rule (leb (1 + (most + (last - openMark))) 64) refusal.Weight n Fine ≡ recordFault img n
-        sums-weigh-open h = weighed (most + (last - openMark)) (omega (arith, em, one, last-weighs img n f _ _ few small (omega (arith, em)) .0 (omega (arith, one))))
+      lower-all : every (λ k. ltb k n) (mostOf img l first count ++ lastOf img l first count ∷ []) ≡ true
+      lower-all = every-last (λ k. ltb k n) (mostOf img l first count) (lastOf img l first count) ∙ rw (x .all, sym (every-one (λ k. ltb k n) (lastOf img l first count)) ∙ y .all)
 
-        pub sums-weigh : last < openMark → rule (leb (1 + (most + last)) 64) refusal.Weight n Fine ≡ recordFault img n
-        sums-weigh h = weighed (most + last) (omega (arith, em, one, last-weighs img n f _ _ few small (omega (arith, em)) .1 (omega (arith, one))))
+      pub sums-open : most .opens ≡ true → At refusal.Nested n ≡ recordFault img n
+      sums-open h = rule-yes _ _ _ _ lower-all (rule-no _ _ _ _ (shut-last (tree img) (mostOf img l first count) (lastOf img l first count) ∙ ap not (sym (x .opens) ∙ h))) ∙ all-rules
+
+      pub sums-weigh : most .opens ≡ false → rule (leb (1 + (most .weight + last .weight)) 64) refusal.Weight n Fine ≡ recordFault img n
+      unfolding named weight
+      sums-weigh h =
+          let w : most .weight + last .weight ≡ weights (named (tree img) (mostOf img l first count ++ lastOf img l first count ∷ [])) = omega (arith, weights-last (tree img) (mostOf img l first count) (lastOf img l first count), x .weight, y .weight) in
+          rule-yes _ _ _ _ lower-all (rule-yes _ _ _ _ (shut-last (tree img) (mostOf img l first count) (lastOf img l first count) ∙ ap not (sym (x .opens) ∙ h)) (ap (λ w. rule (leb (1 + w) 64) refusal.Weight n Fine) w)) ∙ all-rules
 
 -- a HoldTap, by what hold and tap come to
 shut-two : (h p : Action) → (not (open? h) && not (open? p)) ≡ not (someOpen (h & (p & end)))
 unfolding open?
 shut-two h p = rw (or-false (open? p)) (sym (not-or (open? h) (open? p)))
 
-module _ (img : List ℕ) (r l n : ℕ) (p : Placed img r l) (f : Formed img n) (is : fieldOf img n 0 ≡ 7) {sum : ℕ} (es : sum ≡ heftOf img n (wordsFrom img (r + 8 * n + 4) 2)) where
-  two : sum ≡ heftOf img n (fieldOf img n 4 ∷ fieldOf img n 6 ∷ [])
-  two = es ∙ ap (heftOf img n) (pair-words img r l n p)
+module _ (img : List ℕ) (r l n : ℕ) (p : Placed img r l) (f : Formed img n) (is : fieldOf img n 0 ≡ 7) {sum : Children} (es : sum ≡ childrenOf img n (wordsFrom img (r + 8 * n + 4) 2)) where
+  two : sum ≡ childrenOf img n (fieldOf img n 4 ∷ fieldOf img n 6 ∷ [])
+  two = es ∙ ap (childrenOf img n) (pair-words img r l n p)
 
   two-rules : rule (ltb (fieldOf img n 4) n && ltb (fieldOf img n 6) n) refusal.Child n (rule (not (open? (tree img (fieldOf img n 4))) && not (open? (tree img (fieldOf img n 6)))) refusal.Nested n (rule (leb (1 + (weight (tree img (fieldOf img n 4)) + weight (tree img (fieldOf img n 6)))) 64) refusal.Weight n Fine)) ≡ recordFault img n
   unfolding actionOf
   two-rules = hold-tap-rules img n f (fieldOf img n 2) (fieldOf img n 4) (fieldOf img n 6) (action-inside img n (f .inside) ∙ rw is)
 
-  pub pair-small : sum ≤ highMark
-  pair-small = omega (arith, two, heft-most img n (fieldOf img n 4 ∷ fieldOf img n 6 ∷ []) f (omega arith))
+  pub pair-small : sum .weight ≤ 128
+  pair-small = omega (arith, sum-few img n (fieldOf img n 4 ∷ fieldOf img n 6 ∷ []) sum f two)
 
-  pub pair-high : highMark ≤ sum → At refusal.Child n ≡ recordFault img n
-  pair-high h = rule-no _ _ _ _ (sym (all-two (λ k. ltb k n) _ _) ∙ sum-high img n f (fieldOf img n 4 ∷ fieldOf img n 6 ∷ []) (omega arith) (omega (arith, two))) ∙ two-rules
+  pub pair-high : sum .lower ≡ false → At refusal.Child n ≡ recordFault img n
+  pair-high h = rule-no _ _ _ _ (sym (all-two (λ k. ltb k n) _ _) ∙ sum-high img n (fieldOf img n 4 ∷ fieldOf img n 6 ∷ []) sum two h) ∙ two-rules
 
-  module _ (low : sum < highMark) where
-    known : (every (λ k. ltb k n) (fieldOf img n 4 ∷ fieldOf img n 6 ∷ []) ≡ true) × (heftOf img n (fieldOf img n 4 ∷ fieldOf img n 6 ∷ []) ≡ hefts (named (tree img) (fieldOf img n 4 ∷ fieldOf img n 6 ∷ [])))
-    known = sum-low img n f (fieldOf img n 4 ∷ fieldOf img n 6 ∷ []) (omega (arith, two))
+  module _ (low : sum .lower ≡ true) where
+    known : Lower img n (fieldOf img n 4 ∷ fieldOf img n 6 ∷ []) sum
+    known = sum-lower img n (fieldOf img n 4 ∷ fieldOf img n 6 ∷ []) sum two low
 
     lower : (ltb (fieldOf img n 4) n && ltb (fieldOf img n 6) n) ≡ true
-    lower = sym (all-two (λ k. ltb k n) _ _) ∙ known .0
+    lower = sym (all-two (λ k. ltb k n) _ _) ∙ known .all
 
-    pub pair-open : openMark ≤ sum → At refusal.Nested n ≡ recordFault img n
+    pub pair-open : sum .opens ≡ true → At refusal.Nested n ≡ recordFault img n
     unfolding named
-    pair-open h = rule-yes _ _ _ _ lower (rule-no _ _ _ _ (shut-two _ _ ∙ ap not (sum-open img n f (fieldOf img n 4 ∷ fieldOf img n 6 ∷ []) (omega arith) (known .0) (omega (arith, two, known .1))))) ∙ two-rules
+    pair-open h = rule-yes _ _ _ _ lower (rule-no _ _ _ _ (shut-two _ _ ∙ ap not (sym (known .opens) ∙ h))) ∙ two-rules
 
-    pub pair-weigh : sum < openMark → rule (leb (1 + sum) 64) refusal.Weight n Fine ≡ recordFault img n
+    pub pair-weigh : sum .opens ≡ false → rule (leb (1 + sum .weight) 64) refusal.Weight n Fine ≡ recordFault img n
     unfolding named weight
     pair-weigh h =
-        let s = sum-shut img n f (fieldOf img n 4 ∷ fieldOf img n 6 ∷ []) (omega arith) (known .0) (omega (arith, two, known .1)) in
-        let w : sum ≡ weight (tree img (fieldOf img n 4)) + weight (tree img (fieldOf img n 6)) = omega (arith, two, known .1, s .1) in
-        rule-yes _ _ _ _ lower (rule-yes _ _ _ _ (shut-two _ _ ∙ ap not (s .0)) (ap (λ w. rule (leb (1 + w) 64) refusal.Weight n Fine) w)) ∙ two-rules
+        let w : sum .weight ≡ weight (tree img (fieldOf img n 4)) + weight (tree img (fieldOf img n 6)) = omega (arith, known .weight) in
+        rule-yes _ _ _ _ lower (rule-yes _ _ _ _ (shut-two _ _ ∙ ap not (sym (known .opens) ∙ h)) (ap (λ w. rule (leb (1 + w) 64) refusal.Weight n Fine) w)) ∙ two-rules

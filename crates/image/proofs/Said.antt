@@ -1,5 +1,5 @@
 -- An answer is known by what document 01 says of it: its number, its place and its values. Assumes nothing.
-use Prim.Native.Nat.{ℕ, zero, suc}
+use Prim.Native.Nat.{ℕ}
 use mathlib.Core.Path.{_≡_, refl, ap, sym, _∙_}
 use mathlib.Core.Bool.{false, cond}
 use mathlib.Core.List.{List}
@@ -8,7 +8,7 @@ use lib.ListN.{getD}
 use Rattle.refusal.specs.Number.{numberOf}
 use Rattle.refusal.specs.declared.Refusal.{Refusal}
 use Rattle.refusal.specs.declared.Refusal.the-variants.{Short, Header, Length, Cell, Record, Code, Child, Nested, Weight, Scan, Bounce, Room, State, Request}
-use Rattle.image.specs.Check.{Said, saidOf, checkOf}
+use Rattle.image.specs.Check.{Said, saidOf}
 use Rattle.image.specs.declared.words.Shape.{Shape}
 use Rattle.image.specs.declared.rules.Checked.{Checked}
 use Rattle.image.specs.declared.rules.Checked.the-variants.{Accepted, Refused}

@@ -10,16 +10,17 @@ use codes::KeyCode;
 use refusal::Refusal;
 ghost use mathlib.Core.Path.{_≡_};
 ghost use Prim.Native.Nat.{ℕ, _+_, _*_, _<_, _≤_};
-ghost use mathlib.Core.Bool.{true, _&&_};
+ghost use mathlib.Core.Bool.{true, _&&_, _||_};
 ghost use lib.ListN.{length};
 ghost use lib.Dec.{leb};
 ghost use Rattle.codes.specs.Codes.{legal};
-ghost use Rattle.image.specs.Words.{shapeOf, cellsOf, recordsOf, entriesOf, listAt, fieldOf, entries, wordsFrom};
+ghost use Rattle.image.specs.Inside.{Placed, Formed, wordsFrom, weighedOf, childrenOf, Parts};
+ghost use Rattle.image.specs.Words.{shapeOf, cellsOf, recordsOf, entriesOf, listAt, fieldOf, entries};
 ghost use Rattle.image.specs.Record.{actionAt};
-ghost use Rattle.image.specs.Heft.{rowHeft, heftOf, Weighed};
+ghost use Rattle.image.specs.Tree.{tree};
 ghost use Rattle.lists.specs.Lists.{every};
 ghost use Rattle.image.specs.Check.{rule, within, countsGood, offsetsGood, headerGood, headFault, cellFault, form, recordFault, firstFault, bodyFault, faultOf, answer, checkOf, toldOf, saidOf};
-ghost use Rattle.image.specs.Sound.{Framed, Placed, Good, Formed, Rowed};
+ghost use Rattle.image.specs.Sound.{Framed, Good};
 ghost use Rattle.refusal.specs.declared.Refusal.the-variants.{Code, Weight};
 ghost use Rattle.image.specs.declared.record.Action.the-variants.{MultipleKeyCodes, MultipleActions};
 ghost use Rattle.image.specs.declared.rules.Fault.the-variants.{Fine};
@@ -54,18 +55,27 @@ impl Checked {
     }
 }
 
-// What a record comes to by itself, and the words in a row that number the records it names: so many, from a byte offset.
-pub(crate) struct Row {
+// A record as the one that names it meets it: what it weighs by itself, whether that makes it open, and the words that number
+// its own children: so many, from a byte offset.
+pub(crate) struct Child {
     pub own: usize,
+    pub opens: bool,
     pub at: usize,
     pub count: usize,
 }
 
-// A record that is named comes to its weight, and to this mark more if it is open. 1,024 of them weigh less than the mark.
-const OPEN: usize = 1048576;
+// A record with all its children: its weight, and whether it is open.
+pub(crate) struct Weighed {
+    pub weight: usize,
+    pub opens: bool,
+}
 
-// Where one of the records named is not lower, all come to this mark. No sum of lower ones comes to it.
-const HIGH: usize = 1099511627776;
+// The children of a record: whether all are lower than it, and if so whether one is open, and what they weigh.
+pub(crate) struct Children {
+    pub lower: bool,
+    pub opens: bool,
+    pub weight: usize,
+}
 
 // No fault, or the first one and its place.
 pub(crate) enum Fault {
@@ -83,6 +93,12 @@ fn both(a: bool, b: bool) -> bool
     ensures { λ r. ⌜ r ≡ (a && b) ⌝ }
 {
     if a { b } else { false }
+}
+
+fn either(a: bool, b: bool) -> bool
+    ensures { λ r. ⌜ r ≡ (a || b) ⌝ }
+{
+    if a { true } else { b }
 }
 
 // The version and the five counts keep their rules.
@@ -189,101 +205,109 @@ fn codes_legal(image: &[u8], list_at: usize, first: usize, count: usize) -> bool
     true
 }
 
-// The row of record n, which is good, each word that it takes read once. A MultipleActions has its entries, and a HoldTap
-// its own last two words, hold and tap. The word b of any other is 0 but in a MultipleKeyCodes, where it is the count.
-fn row_of(image: &[u8], records_at: usize, list_at: usize, n: usize) -> Row
+// Record n, which is good, each word that it takes read once. The children of a MultipleActions are its entries, and those
+// of a HoldTap its own last two words, hold and tap. The word b of any other is 0 but in a MultipleKeyCodes, where it is the
+// count.
+fn child_at(image: &[u8], records_at: usize, list_at: usize, n: usize) -> Child
     requires { ⌜ Placed (now image) «records_at» «list_at» × Formed (now image) n × Good (now image) n ⌝ }
-    ensures { λ r. ⌜ Weighed (now (image .entry)) n (r .own) (r .at) (r .count) ⌝ }
+    ensures { λ r. ⌜ Parts (now (image .entry)) n r ⌝ }
 {
     let kind = field(image, records_at, n, 0);
     let b = field(image, records_at, n, 4) as usize;
     if kind == 4 {
         let first = field(image, records_at, n, 2) as usize;
-        return Row {
+        return Child {
             own: 1,
+            opens: false,
             at: list_at + 2 * first,
             count: b,
         };
     }
     if kind < 7 {
-        return Row {
+        return Child {
             own: 1 + b,
+            opens: false,
             at: 0,
             count: 0,
         };
     }
-    Row {
-        own: 1 + OPEN,
+    Child {
+        own: 1,
+        opens: true,
         at: records_at + 8 * n + 4,
         count: 2,
     }
 }
 
-// What the records of a row come to, all below n and good: recursion over them. A record that names none is no call, nor
-// is the last of the row, whose own row takes the place of this one.
-fn weigh_row(
-    image: &[u8],
-    records_at: usize,
-    list_at: usize,
-    n: usize,
-    at: usize,
-    count: usize,
-) -> usize
-    requires { ⌜ Placed (now image) «records_at» «list_at» × Formed (now image) n × Rowed (now image) n at count ⌝ }
-    ensures { λ r. ⌜ r ≡ rowHeft (now (image .entry)) at count ⌝ }
+// The weight of record n, which is good, and whether it is open: by recursion over its children, which are lower. A child
+// that has none of its own is no call.
+fn weigh(image: &[u8], records_at: usize, list_at: usize, n: usize, it: Child) -> Weighed
+    requires { ⌜ Placed (now image) «records_at» «list_at» × Formed (now image) n × Good (now image) n × Parts (now image) n it ⌝ }
+    ensures { λ r. ⌜ r ≡ weighedOf (tree (now (image .entry)) n) ⌝ }
 {
-    let mut sum = 0;
-    let mut from = at;
-    let mut left = count;
+    let mut weight = it.own;
+    let mut opens = it.opens;
+    let mut from = it.at;
+    let mut left = it.count;
     while 0 < left {
         let k = word(image, from) as usize;
-        let row = row_of(image, records_at, list_at, k);
-        sum += row.own;
+        let child = child_at(image, records_at, list_at, k);
         from += 2;
         left -= 1;
-        if row.count == 0 {
+        if child.count == 0 {
+            weight += child.own;
+            opens = either(opens, child.opens);
             continue;
         }
-        if left == 0 {
-            from = row.at;
-            left = row.count;
-            continue;
-        }
-        sum += weigh_row(image, records_at, list_at, k, row.at, row.count);
+        let whole = weigh(image, records_at, list_at, k, child);
+        weight += whole.weight;
+        opens = either(opens, whole.opens);
     }
-    sum
+    Weighed { weight, opens }
 }
 
-// What the words of a row come to as records that record n names: the one pass over them.
-fn row_sum(
+// The children of record n, which so many words from a byte offset number: the one pass over them.
+fn weigh_children(
     image: &[u8],
     records_at: usize,
     list_at: usize,
     n: usize,
     at: usize,
     count: usize,
-) -> usize
+) -> Children
     requires { ⌜ Placed (now image) «records_at» «list_at» × Formed (now image) n × (at + 2 * count ≤ length (now image)) × (count ≤ 1024) ⌝ }
-    ensures { λ r. ⌜ r ≡ heftOf (now (image .entry)) n (wordsFrom (now (image .entry)) at count) ⌝ }
+    ensures { λ r. ⌜ r ≡ childrenOf (now (image .entry)) n (wordsFrom (now (image .entry)) at count) ⌝ }
 {
-    let mut sum = 0;
+    let mut weight = 0;
+    let mut opens = false;
     let mut from = at;
     let mut left = count;
     while 0 < left {
         let k = word(image, from) as usize;
         if n <= k {
-            return HIGH;
+            return Children {
+                lower: false,
+                opens: false,
+                weight: 0,
+            };
         }
-        let row = row_of(image, records_at, list_at, k);
-        sum += row.own;
+        let child = child_at(image, records_at, list_at, k);
         from += 2;
         left -= 1;
-        if row.count == 0 {
+        if child.count == 0 {
+            weight += child.own;
+            opens = either(opens, child.opens);
             continue;
         }
-        sum += weigh_row(image, records_at, list_at, k, row.at, row.count);
+        let whole = weigh(image, records_at, list_at, k, child);
+        weight += whole.weight;
+        opens = either(opens, whole.opens);
     }
-    sum
+    Children {
+        lower: true,
+        opens,
+        weight,
+    }
 }
 
 // Weight, the last rule of a record.
@@ -333,18 +357,18 @@ fn actions_fault(
         return Fault::Fine;
     }
     let at = list_at + 2 * first;
-    let most = row_sum(image, records_at, list_at, n, at, count - 1);
-    let last = row_sum(image, records_at, list_at, n, at + 2 * (count - 1), 1);
-    if HIGH <= most + last {
+    let most = weigh_children(image, records_at, list_at, n, at, count - 1);
+    let last = weigh_children(image, records_at, list_at, n, at + 2 * (count - 1), 1);
+    if !most.lower {
         return Fault::At(Refusal::Child, n);
     }
-    if OPEN <= most {
+    if !last.lower {
+        return Fault::At(Refusal::Child, n);
+    }
+    if most.opens {
         return Fault::At(Refusal::Nested, n);
     }
-    if OPEN <= last {
-        return weight_fault(n, 1 + (most + (last - OPEN)));
-    }
-    weight_fault(n, 1 + (most + last))
+    weight_fault(n, 1 + (most.weight + last.weight))
 }
 
 // A HoldTap: Child, Nested, Weight.
@@ -352,14 +376,14 @@ fn hold_tap_fault(image: &[u8], records_at: usize, list_at: usize, n: usize) -> 
     requires { ⌜ Placed (now image) «records_at» «list_at» × Formed (now image) n × (fieldOf (now image) n 0 ≡ 7) ⌝ }
     ensures { λ r. ⌜ r ≡ recordFault (now (image .entry)) n ⌝ }
 {
-    let sum = row_sum(image, records_at, list_at, n, records_at + 8 * n + 4, 2);
-    if HIGH <= sum {
+    let sum = weigh_children(image, records_at, list_at, n, records_at + 8 * n + 4, 2);
+    if !sum.lower {
         return Fault::At(Refusal::Child, n);
     }
-    if OPEN <= sum {
+    if sum.opens {
         return Fault::At(Refusal::Nested, n);
     }
-    weight_fault(n, 1 + sum)
+    weight_fault(n, 1 + sum.weight)
 }
 
 // The first fault of record n, where every lower record is good: its form, then the rules that its kind can break.

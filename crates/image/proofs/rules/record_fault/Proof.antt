@@ -2,7 +2,7 @@
 use Rattle.image.proofs.Records.{action-read, code-rules, form-bad, form-read, no-rules}
 use Rattle.image.specs.Check.{formGood}
 use Rattle.image.specs.Record.{actionAt, actionOf}
-use Rattle.image.specs.Sound.{Formed}
+use Rattle.image.specs.Inside.{Formed}
 use borrow.Author.Needs.{needs}
 use borrow.Author.Tests.{not-false, not-true}
 use denote.Ref.{now}
