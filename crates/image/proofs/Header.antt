@@ -15,8 +15,8 @@ use Rattle.image.specs.Words.{versionOf, recordsOf, recordsAt, listAt, s
 use Rattle.image.specs.Check.{within, countsGood, offsetsGood, headerGood, headFault, cellFault}
 use Rattle.image.specs.Sound.{Framed}
 use Rattle.image.specs.declared.words.Shape.{Shape}
-use Rattle.image.specs.declared.rules.Fault.the-variants.{Fine, At}
-use Rattle.image.proofs.Faults.{rule-no, rule-yes, rule-fine}
+use Rattle.refusal.specs.declared.Verdict.the-variants.{Fine, Refused}
+use Rattle.refusal.proofs.Verdicts.{rule-no, rule-yes, rule-fine}
 
 -- what the header's rules say
 in-range : (lo hi x : ℕ) → within lo hi x ≡ true → (lo ≤ x) × (x ≤ hi)
@@ -80,7 +80,7 @@ framed img e =
     }
 
 -- a cell's rule
-pub cell-bad : (img : List ℕ) (i : ℕ) → recordsOf img ≤ cellOf img i → cellFault img i ≡ At refusal.Cell i
+pub cell-bad : (img : List ℕ) (i : ℕ) → recordsOf img ≤ cellOf img i → cellFault img i ≡ Refused refusal.Cell i
 unfolding cellFault
 cell-bad img i h = sym (rule-no _ refusal.Cell i Fine (le-ltb (cellOf img i) (recordsOf img) h))
 

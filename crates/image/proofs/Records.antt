@@ -17,14 +17,16 @@ use Rattle.image.specs.Inside.{Placed, Formed, wordsFrom, childrenOf}
 use Rattle.image.specs.Words.{recordsOf, entriesOf, fieldOf, entries, wordAt}
 use Rattle.image.specs.Record.{actionOf, actionAt, codesIn, childrenIn, listEnd}
 use Rattle.image.specs.Tree.{Action, end, _&_, named, meaning, tree, open?, someOpen, shutButLast, settled, weight, weights}
-use Rattle.image.specs.Check.{rule, form, formGood, recordFault}
+use Rattle.refusal.specs.Verdict.{rule}
+use Rattle.image.specs.Check.{form, formGood, recordFault}
 use Rattle.image.specs.declared.rules.Children.{Children}
 use Rattle.image.specs.Sound.{Good}
 use Rattle.image.specs.declared.record.Action.{Action as Record}
 use Rattle.image.specs.declared.record.Action.the-variants as code
-use Rattle.image.specs.declared.rules.Fault.{Fault}
-use Rattle.image.specs.declared.rules.Fault.the-variants.{Fine, At}
-use Rattle.image.proofs.Faults.{and-true, and-false, or-false, not-or, rule-no, rule-yes, rule-fine, rule-with}
+use Rattle.refusal.specs.declared.Verdict.{Verdict}
+use Rattle.refusal.specs.declared.Verdict.the-variants.{Fine, Refused}
+use Rattle.refusal.proofs.Verdicts.{rule-no, rule-yes, rule-fine, rule-with}
+use Rattle.image.proofs.Faults.{and-true, and-false, or-false, not-or}
 use Rattle.image.proofs.Entries.{length-entries, length-words, words-last, all-two}
 use Rattle.image.proofs.Trees.{tree-step, action-inside, by-kind}
 use Rattle.image.proofs.Children.{Lower, sum-high, sum-lower, sum-few, every-one, every-last, shut-last, weights-last, entries-at, pair-words}
@@ -55,14 +57,14 @@ module _ (img : List ℕ) (n : ℕ) {k a b c : ℕ} (kind : k ≡ fieldOf img n 
   action-read h = rw (kind, first, second, third) (action-inside img n h)
 
 -- the rules past the form of record n with the action x, whose tree speaks of the trees of the records it names
-abbrev rulesPast : List ℕ → ℕ → Record → Fault
+abbrev rulesPast : List ℕ → ℕ → Record → Verdict
 rulesPast img n x =
     rule (every legal (codesIn img x)) refusal.Code n
     (rule (every (λ k. ltb k n) (childrenIn img x)) refusal.Child n
     (rule (settled (meaning img (tree img) n x)) refusal.Nested n (rule (leb (weight (meaning img (tree img) n x)) 64) refusal.Weight n Fine)))
 
 -- the form of record n is bad
-pub form-bad : (img : List ℕ) (n : ℕ) → formGood img n ≡ false → At refusal.Record n ≡ recordFault img n
+pub form-bad : (img : List ℕ) (n : ℕ) → formGood img n ≡ false → Refused refusal.Record n ≡ recordFault img n
 unfolding recordFault
 form-bad img n f = rule-no _ _ _ _ f
 
@@ -136,10 +138,10 @@ module _ (img : List ℕ) (r l n first count : ℕ) (p : Placed img r l) (f : Fo
     pub sums-small : (most .weight ≤ 65536) × (last .weight ≤ 64)
     sums-small = (omega (arith, few, sum-few img n (mostOf img l first count) most f em), omega (arith, sum-few img n (lastOf img l first count ∷ []) last f one))
 
-    pub most-high : most .lower ≡ false → At refusal.Child n ≡ recordFault img n
+    pub most-high : most .lower ≡ false → Refused refusal.Child n ≡ recordFault img n
     most-high h = rule-no _ _ _ _ (every-last (λ k. ltb k n) (mostOf img l first count) (lastOf img l first count) ∙ rw (sum-high img n (mostOf img l first count) most em h)) ∙ all-rules
 
-    pub last-high : last .lower ≡ false → At refusal.Child n ≡ recordFault img n
+    pub last-high : last .lower ≡ false → Refused refusal.Child n ≡ recordFault img n
     last-high h = rule-no _ _ _ _ (every-last (λ k. ltb k n) (mostOf img l first count) (lastOf img l first count) ∙ rw (sym (every-one (λ k. ltb k n) (lastOf img l first count)) ∙ sum-high img n (lastOf img l first count ∷ []) last one h) (and-false (every (λ k. ltb k n) (mostOf img l first count)))) ∙ all-rules
 
     module _ (a : most .lower ≡ true) (b : last .lower ≡ true) where
@@ -152,7 +154,7 @@ module _ (img : List ℕ) (r l n first count : ℕ) (p : Placed img r l) (f : Fo
       lower-all : every (λ k. ltb k n) (mostOf img l first count ++ lastOf img l first count ∷ []) ≡ true
       lower-all = every-last (λ k. ltb k n) (mostOf img l first count) (lastOf img l first count) ∙ rw (x .all, sym (every-one (λ k. ltb k n) (lastOf img l first count)) ∙ y .all)
 
-      pub sums-open : most .opens ≡ true → At refusal.Nested n ≡ recordFault img n
+      pub sums-open : most .opens ≡ true → Refused refusal.Nested n ≡ recordFault img n
       sums-open h = rule-yes _ _ _ _ lower-all (rule-no _ _ _ _ (shut-last (tree img) (mostOf img l first count) (lastOf img l first count) ∙ ap not (sym (x .opens) ∙ h))) ∙ all-rules
 
       pub sums-weigh : most .opens ≡ false → rule (leb (1 + (most .weight + last .weight)) 64) refusal.Weight n Fine ≡ recordFault img n
@@ -177,7 +179,7 @@ module _ (img : List ℕ) (r l n : ℕ) (p : Placed img r l) (f : Formed img n) 
   pub pair-small : sum .weight ≤ 128
   pair-small = omega (arith, sum-few img n (fieldOf img n 4 ∷ fieldOf img n 6 ∷ []) sum f two)
 
-  pub pair-high : sum .lower ≡ false → At refusal.Child n ≡ recordFault img n
+  pub pair-high : sum .lower ≡ false → Refused refusal.Child n ≡ recordFault img n
   pair-high h = rule-no _ _ _ _ (sym (all-two (λ k. ltb k n) _ _) ∙ sum-high img n (fieldOf img n 4 ∷ fieldOf img n 6 ∷ []) sum two h) ∙ two-rules
 
   module _ (low : sum .lower ≡ true) where
@@ -187,7 +189,7 @@ module _ (img : List ℕ) (r l n : ℕ) (p : Placed img r l) (f : Formed img n) 
     lower : (ltb (fieldOf img n 4) n && ltb (fieldOf img n 6) n) ≡ true
     lower = sym (all-two (λ k. ltb k n) _ _) ∙ known .all
 
-    pub pair-open : sum .opens ≡ true → At refusal.Nested n ≡ recordFault img n
+    pub pair-open : sum .opens ≡ true → Refused refusal.Nested n ≡ recordFault img n
     unfolding named
     pair-open h = rule-yes _ _ _ _ lower (rule-no _ _ _ _ (shut-two _ _ ∙ ap not (sym (known .opens) ∙ h))) ∙ two-rules
 

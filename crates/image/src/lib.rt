@@ -17,6 +17,5 @@ pub use record::action_at;
 pub use record::cell_at;
 pub use record::entry_at;
 pub use rules::Checked;
-pub use rules::Told;
 pub use rules::check;
 pub use words::Shape;

@@ -8,6 +8,8 @@ use super::words::shape_of;
 use super::words::word;
 use codes::KeyCode;
 use refusal::Refusal;
+use refusal::Told;
+use refusal::Verdict;
 ghost use mathlib.Core.Path.{_≡_};
 ghost use Prim.Native.Nat.{ℕ, _+_, _*_, _<_, _≤_};
 ghost use mathlib.Core.Bool.{true, _&&_, _||_};
@@ -19,22 +21,17 @@ ghost use Rattle.image.specs.Words.{shapeOf, cellsOf, recordsOf, entries
 ghost use Rattle.image.specs.Record.{actionAt};
 ghost use Rattle.image.specs.Tree.{tree};
 ghost use Rattle.lists.specs.Lists.{every};
-ghost use Rattle.image.specs.Check.{rule, within, countsGood, offsetsGood, headerGood, headFault, cellFault, form, recordFault, firstFault, bodyFault, faultOf, answer, checkOf, toldOf, saidOf};
+ghost use Rattle.image.specs.Check.{within, countsGood, offsetsGood, headerGood, headFault, cellFault, form, recordFault, bodyFault, faultOf, answer, checkOf, toldOf, saidOf};
 ghost use Rattle.image.specs.Sound.{Framed, Good};
+ghost use Rattle.refusal.specs.Verdict.{rule, firstFault};
 ghost use Rattle.refusal.specs.declared.Refusal.the-variants.{Code, Weight};
 ghost use Rattle.image.specs.declared.record.Action.the-variants.{MultipleKeyCodes, MultipleActions};
-ghost use Rattle.image.specs.declared.rules.Fault.the-variants.{Fine};
+ghost use Rattle.refusal.specs.declared.Verdict.the-variants.{Fine};
 
 // The header's numbers of an accepted image, or the first fault and its place.
 pub enum Checked {
     Accepted(Shape),
     Refused(Refusal, usize),
-}
-
-// The number and place of an answer, as document 01 counts refusals: 0 and 0 where nothing is refused.
-pub struct Told {
-    pub number: u8,
-    pub place: usize,
 }
 
 impl Checked {
@@ -75,12 +72,6 @@ pub(crate) struct Children {
     pub lower: bool,
     pub opens: bool,
     pub weight: usize,
-}
-
-// No fault, or the first one and its place.
-pub(crate) enum Fault {
-    Fine,
-    At(Refusal, usize),
 }
 
 fn is_within(lo: usize, hi: usize, x: usize) -> bool
@@ -138,32 +129,32 @@ fn header_good(version: usize, s: Shape) -> bool
 }
 
 // Header, then Length.
-pub(crate) fn head_fault(image: &[u8], s: Shape, long: bool) -> Fault
+pub(crate) fn head_fault(image: &[u8], s: Shape, long: bool) -> Verdict
     requires { ⌜ (16 ≤ length (now image)) × (s ≡ shapeOf (now image)) ⌝ }
     ensures { λ r. ⌜ r ≡ headFault (now (image .entry)) long ⌝ }
 {
     if !header_good(word(image, 0) as usize, s) {
-        return Fault::At(Refusal::Header, 0);
+        return Verdict::Refused(Refusal::Header, 0);
     }
     if !long {
-        return Fault::At(Refusal::Length, 0);
+        return Verdict::Refused(Refusal::Length, 0);
     }
-    Fault::Fine
+    Verdict::Fine
 }
 
 // The first cell that names no record.
-fn cells_fault(image: &[u8], count: usize, records: usize) -> Fault
+fn cells_fault(image: &[u8], count: usize, records: usize) -> Verdict
     requires { ⌜ Framed (now image) × (count ≡ cellsOf (now image)) × (records ≡ recordsOf (now image)) ⌝ }
     ensures { λ r. ⌜ r ≡ firstFault (cellFault (now (image .entry))) 0 count ⌝ }
 {
     let mut i = 0;
     while i < count {
         if records <= (word(image, 16 + 2 * i) as usize) {
-            return Fault::At(Refusal::Cell, i);
+            return Verdict::Refused(Refusal::Cell, i);
         }
         i += 1;
     }
-    Fault::Fine
+    Verdict::Fine
 }
 
 // The form of a record's words, where the list has so many entries.
@@ -311,32 +302,32 @@ fn weigh_children(
 }
 
 // Weight, the last rule of a record.
-fn weight_fault(n: usize, weight: usize) -> Fault
+fn weight_fault(n: usize, weight: usize) -> Verdict
     ensures { λ r. ⌜ r ≡ rule (leb weight 64) Weight n Fine ⌝ }
 {
     if 64 < weight {
-        return Fault::At(Refusal::Weight, n);
+        return Verdict::Refused(Refusal::Weight, n);
     }
-    Fault::Fine
+    Verdict::Fine
 }
 
 // A KeyCode: Code.
-fn code_fault(n: usize, code: u16) -> Fault
+fn code_fault(n: usize, code: u16) -> Verdict
     ensures { λ r. ⌜ r ≡ rule (legal code) Code n Fine ⌝ }
 {
     if !KeyCode::is_legal(code) {
-        return Fault::At(Refusal::Code, n);
+        return Verdict::Refused(Refusal::Code, n);
     }
-    Fault::Fine
+    Verdict::Fine
 }
 
 // A MultipleKeyCodes: Code, Weight.
-fn codes_fault(image: &[u8], list_at: usize, n: usize, first: usize, count: usize) -> Fault
+fn codes_fault(image: &[u8], list_at: usize, n: usize, first: usize, count: usize) -> Verdict
     requires { ⌜ Framed (now image) × («list_at» ≡ listAt (now image)) × Formed (now image) n × (actionAt (now image) n ≡ MultipleKeyCodes first count) ⌝ }
     ensures { λ r. ⌜ r ≡ recordFault (now (image .entry)) n ⌝ }
 {
     if !codes_legal(image, list_at, first, count) {
-        return Fault::At(Refusal::Code, n);
+        return Verdict::Refused(Refusal::Code, n);
     }
     weight_fault(n, 1 + count)
 }
@@ -349,45 +340,45 @@ fn actions_fault(
     n: usize,
     first: usize,
     count: usize,
-) -> Fault
+) -> Verdict
     requires { ⌜ Placed (now image) «records_at» «list_at» × Formed (now image) n × (actionAt (now image) n ≡ MultipleActions first count) ⌝ }
     ensures { λ r. ⌜ r ≡ recordFault (now (image .entry)) n ⌝ }
 {
     if count == 0 {
-        return Fault::Fine;
+        return Verdict::Fine;
     }
     let at = list_at + 2 * first;
     let most = weigh_children(image, records_at, list_at, n, at, count - 1);
     let last = weigh_children(image, records_at, list_at, n, at + 2 * (count - 1), 1);
     if !most.lower {
-        return Fault::At(Refusal::Child, n);
+        return Verdict::Refused(Refusal::Child, n);
     }
     if !last.lower {
-        return Fault::At(Refusal::Child, n);
+        return Verdict::Refused(Refusal::Child, n);
     }
     if most.opens {
-        return Fault::At(Refusal::Nested, n);
+        return Verdict::Refused(Refusal::Nested, n);
     }
     weight_fault(n, 1 + (most.weight + last.weight))
 }
 
 // A HoldTap: Child, Nested, Weight.
-fn hold_tap_fault(image: &[u8], records_at: usize, list_at: usize, n: usize) -> Fault
+fn hold_tap_fault(image: &[u8], records_at: usize, list_at: usize, n: usize) -> Verdict
     requires { ⌜ Placed (now image) «records_at» «list_at» × Formed (now image) n × (fieldOf (now image) n 0 ≡ 7) ⌝ }
     ensures { λ r. ⌜ r ≡ recordFault (now (image .entry)) n ⌝ }
 {
     let sum = weigh_children(image, records_at, list_at, n, records_at + 8 * n + 4, 2);
     if !sum.lower {
-        return Fault::At(Refusal::Child, n);
+        return Verdict::Refused(Refusal::Child, n);
     }
     if sum.opens {
-        return Fault::At(Refusal::Nested, n);
+        return Verdict::Refused(Refusal::Nested, n);
     }
     weight_fault(n, 1 + sum.weight)
 }
 
 // The first fault of record n, where every lower record is good: its form, then the rules that its kind can break.
-fn record_fault(image: &[u8], records_at: usize, list_at: usize, listed: usize, n: usize) -> Fault
+fn record_fault(image: &[u8], records_at: usize, list_at: usize, listed: usize, n: usize) -> Verdict
     requires { ⌜ Placed (now image) «records_at» «list_at» × (listed ≡ entriesOf (now image)) × (n < recordsOf (now image)) × ((k : ℕ) → k < n → Good (now image) k) ⌝ }
     ensures { λ r. ⌜ r ≡ recordFault (now (image .entry)) n ⌝ }
 {
@@ -396,14 +387,14 @@ fn record_fault(image: &[u8], records_at: usize, list_at: usize, listed: usize, 
     let b = field(image, records_at, n, 4);
     let c = field(image, records_at, n, 6);
     if !form_good(listed, kind, a, b, c) {
-        return Fault::At(Refusal::Record, n);
+        return Verdict::Refused(Refusal::Record, n);
     }
     match kind {
         2 => code_fault(n, a),
         3 => codes_fault(image, list_at, n, a as usize, b as usize),
         4 => actions_fault(image, records_at, list_at, n, a as usize, b as usize),
         7 => hold_tap_fault(image, records_at, list_at, n),
-        _ => Fault::Fine,
+        _ => Verdict::Fine,
     }
 }
 
@@ -414,53 +405,53 @@ fn records_fault(
     list_at: usize,
     listed: usize,
     records: usize,
-) -> Fault
+) -> Verdict
     requires { ⌜ Placed (now image) «records_at» «list_at» × (listed ≡ entriesOf (now image)) × (records ≡ recordsOf (now image)) ⌝ }
     ensures { λ r. ⌜ r ≡ firstFault (recordFault (now (image .entry))) 0 records ⌝ }
 {
     let mut n = 0;
     while n < records {
         let f = record_fault(image, records_at, list_at, listed, n);
-        let Fault::Fine = f else {
+        let Verdict::Fine = f else {
             return f;
         };
         n += 1;
     }
-    Fault::Fine
+    Verdict::Fine
 }
 
 // Cells, then records.
-fn body_fault(image: &[u8], s: Shape) -> Fault
+fn body_fault(image: &[u8], s: Shape) -> Verdict
     requires { ⌜ Framed (now image) × (s ≡ shapeOf (now image)) ⌝ }
     ensures { λ r. ⌜ r ≡ bodyFault (now (image .entry)) ⌝ }
 {
     let f = cells_fault(image, s.layers * s.rows * s.columns, s.records);
-    let Fault::Fine = f else {
+    let Verdict::Fine = f else {
         return f;
     };
     records_fault(image, s.records_at, s.list_at, s.entries, s.records)
 }
 
 // Past Short: Header, Length, cells, records.
-fn image_fault(image: &[u8], s: Shape) -> Fault
+fn image_fault(image: &[u8], s: Shape) -> Verdict
     requires { ⌜ (16 ≤ length (now image)) × (s ≡ shapeOf (now image)) × (s .entries < 65536) × (s .«list_at» < 65536) ⌝ }
     ensures { λ r. ⌜ r ≡ faultOf (now (image .entry)) ⌝ }
 {
     let size = s.list_at + 2 * s.entries;
     let f = head_fault(image, s, image.len() == size);
-    let Fault::Fine = f else {
+    let Verdict::Fine = f else {
         return f;
     };
     body_fault(image, s)
 }
 
 // The answer to a fault: the refusal, and where there is none, the header's numbers.
-pub(crate) fn answer_of(fault: Fault, s: Shape) -> Checked
+pub(crate) fn answer_of(fault: Verdict, s: Shape) -> Checked
     ensures { λ r. ⌜ r ≡ answer fault s ⌝ }
 {
     match fault {
-        Fault::Fine => Checked::Accepted(s),
-        Fault::At(refusal, place) => Checked::Refused(refusal, place),
+        Verdict::Fine => Checked::Accepted(s),
+        Verdict::Refused(refusal, place) => Checked::Refused(refusal, place),
     }
 }
 
@@ -473,7 +464,7 @@ pub fn check(image: &[u8]) -> Checked
     }
     let s = shape_of(image);
     let f = image_fault(image, s);
-    let Fault::Fine = f else {
+    let Verdict::Fine = f else {
         return answer_of(f, s);
     };
     Checked::Accepted(s)

@@ -1,5 +1,5 @@
 -- `image::rules::code_fault` meets its contract: the one rule. Assumes nothing.
-use Rattle.image.proofs.Faults.{rule-no, rule-yes}
+use Rattle.refusal.proofs.Verdicts.{rule-no, rule-yes}
 use borrow.Author.Needs.{needs}
 use borrow.Author.Tests.{not-false, not-true}
 use mathlib.Core.Path.{_∙_, refl, sym}

@@ -1,6 +1,6 @@
 -- `image::rules::codes_fault` meets its contract: the rules that a MultipleKeyCodes can break. Assumes nothing.
 use Prim.Native.Nat.{_+_, _≤_}
-use Rattle.image.proofs.Faults.{rule-no, rule-yes}
+use Rattle.refusal.proofs.Verdicts.{rule-no, rule-yes}
 use Rattle.image.proofs.Records.{codes-rules, listed-inside}
 use Rattle.image.specs.Record.{listEnd}
 use Rattle.image.specs.Words.{entriesOf}

@@ -1,5 +1,5 @@
 -- `image::rules::head_fault` meets its contract: rule by rule. Assumes nothing.
-use Rattle.image.proofs.Faults.{rule-no, rule-yes}
+use Rattle.refusal.proofs.Verdicts.{rule-no, rule-yes}
 use Rattle.image.specs.Check.{headFault, headerGood}
 use Rattle.image.specs.Words.{shapeOf, versionOf}
 use borrow.Author.Needs.{needs}

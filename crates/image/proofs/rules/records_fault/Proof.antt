@@ -1,8 +1,9 @@
 -- `image::rules::records_fault` meets its contract. The invariant: every record passed is good, and the first fault is that from the record reached on. Assumes nothing.
 use Prim.Native.Nat.{_-_, _<_, _≤_, ℕ}
-use Rattle.image.proofs.Faults.{fault-here, fault-none, fault-on}
+use Rattle.refusal.proofs.Verdicts.{fault-here, fault-none, fault-on}
 use Rattle.image.proofs.Records.{good}
-use Rattle.image.specs.Check.{firstFault, recordFault}
+use Rattle.refusal.specs.Verdict.{firstFault}
+use Rattle.image.specs.Check.{recordFault}
 use Rattle.image.specs.Sound.{Good}
 use borrow.Author.Count.{below-more}
 use borrow.Author.Needs.{needs}

@@ -1,5 +1,5 @@
 -- `image::rules::weight_fault` meets its contract: the one rule. Assumes nothing.
-use Rattle.image.proofs.Faults.{rule-no, rule-yes}
+use Rattle.refusal.proofs.Verdicts.{rule-no, rule-yes}
 use borrow.Author.Tests.{le-leb, lt-leb}
 use mathlib.Core.Path.{refl}
 use Rattle.image.proofs.rules.weight_fault.Statement.{statement}
