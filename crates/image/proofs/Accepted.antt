@@ -46,10 +46,10 @@ use Rattle.image.specs.declared.rules.Checked.the-variants.{Accepted}
 use Rattle.image.specs.declared.areas.Source.the-variants.{Operator, BuiltIn}
 use Rattle.refusal.proofs.Verdicts.{rule-fine, or-fine, fine-all}
 use Rattle.image.proofs.Faults.{not-or}
-use Rattle.image.proofs.Header.{framed, cell-kept}
+use Rattle.image.proofs.HeaderRules.{framed, cell-kept}
 use Rattle.image.proofs.Entries.{all-at, two-of, below-byte}
 use Rattle.image.proofs.Trees.{meant, either, by-kind}
-use Rattle.image.proofs.Records.{good}
+use Rattle.image.proofs.RecordRules.{good}
 use Rattle.image.proofs.Chosen.{area-accepted, operator-chosen, built-in-chosen}
 pub use Rattle.image.proofs.Entries.{entries-step, length-entries, all-head, all-tail, named-step, named-none}
 

@@ -19,7 +19,7 @@ use Rattle.image.specs.declared.rules.Checked.{Checked}
 use Rattle.image.specs.declared.rules.Checked.the-variants as checked
 use Rattle.image.specs.declared.areas.Source.the-variants.{Operator, BuiltIn, Neither}
 use Rattle.refusal.proofs.Verdicts.{rule-fine}
-use Rattle.image.proofs.Header.{headed}
+use Rattle.image.proofs.HeaderRules.{headed}
 
 -- a fault of the area decides; with none the stretch is checked
 pub area-at : (f : Verdict) (c : Checked) (r : Refusal) (p : ℕ) → f ≡ Refused r p → checked.Refused r p ≡ unlessFault f c

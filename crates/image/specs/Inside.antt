@@ -8,13 +8,15 @@ use mathlib.Core.List.{List, [], _∷_}
 use lib.ListN.{length}
 use lib.Dec.{ltb}
 use Rattle.lists.specs.Lists.{every}
-use Rattle.image.specs.Words.{wordAt, recordsOf, recordsAt, listAt}
+use Rattle.image.specs.Words.{wordAt, recordsOf, entriesOf, recordsAt, listAt}
+use Rattle.image.specs.Record.{actionAt}
 use Rattle.image.specs.Tree.{Action, Actions, named, tree, open?, someOpen, weight, weights}
 use Rattle.image.specs.Check.{formGood}
 use Rattle.image.specs.Sound.{Framed, Good}
-use Rattle.image.specs.declared.rules.Child.{Child}
-use Rattle.image.specs.declared.rules.Weighed.{Weighed}
-use Rattle.image.specs.declared.rules.Children.{Children}
+use Rattle.image.specs.declared.record.Action.the-variants.{MultipleKeyCodes, MultipleActions}
+use Rattle.image.specs.declared.children.Child.{Child}
+use Rattle.image.specs.declared.children.Weighed.{Weighed}
+use Rattle.image.specs.declared.children.Children.{Children}
 
 -- the two offsets, read once and handed on
 pub record Placed (img : List ℕ) (records-at list-at : ℕ) : Type 0 where
@@ -59,3 +61,21 @@ pub record Parts (img : List ℕ) (n : ℕ) (it : Child) : Type 0 where
   pub words : ChildWords img n (it .at) (it .count)
   pub weighs : it .own + weights (childrenAt img (it .at) (it .count)) ≡ weight (tree img n)
   pub opens : (it .opens || someOpen (childrenAt img (it .at) (it .count))) ≡ open? (tree img n)
+
+-- what is asked where the children of record n are weighed, which so many words from a byte offset number
+abbrev pub ChildrenAsked : List ℕ → ℕ → ℕ → ℕ → ℕ → ℕ → Type 0
+ChildrenAsked img records-at list-at n at count =
+    Placed img records-at list-at × Formed img n × (at + 2 * count ≤ length img) × (count ≤ 1024)
+
+-- where the rules of record n are, which is a MultipleKeyCodes, a MultipleActions, or of any kind with every lower record good
+abbrev pub CodesAsked : List ℕ → ℕ → ℕ → ℕ → ℕ → Type 0
+CodesAsked img list-at n first count =
+    Framed img × (list-at ≡ listAt img) × Formed img n × (actionAt img n ≡ MultipleKeyCodes first count)
+
+abbrev pub ActionsAsked : List ℕ → ℕ → ℕ → ℕ → ℕ → ℕ → Type 0
+ActionsAsked img records-at list-at n first count =
+    Placed img records-at list-at × Formed img n × (actionAt img n ≡ MultipleActions first count)
+
+abbrev pub RecordAsked : List ℕ → ℕ → ℕ → ℕ → ℕ → Type 0
+RecordAsked img records-at list-at listed n =
+    Placed img records-at list-at × (listed ≡ entriesOf img) × (n < recordsOf img) × ((k : ℕ) → k < n → Good img k)

@@ -1,10 +1,10 @@
 // The table in use: document 01, "The table in use". Two areas of flash are lent, the operator's and the built-in, each
 // of which may be longer than its image.
 // Assumes nothing.
+use super::header::head_fault;
 use super::rules::Checked;
 use super::rules::answer_of;
 use super::rules::check;
-use super::rules::head_fault;
 use super::words::shape_of;
 use super::words::word_or_zero;
 use refusal::Refusal;

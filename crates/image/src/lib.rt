@@ -2,7 +2,10 @@
 // table in use. Document 01, "The table image".
 // Assumes nothing.
 pub mod areas;
+mod children;
+mod header;
 pub mod record;
+mod records;
 pub mod rules;
 pub mod words;
 
