@@ -45,7 +45,7 @@ use Rattle.refusal.specs.declared.Verdict.the-variants.{Fine, Refused}
 use Rattle.image.specs.declared.rules.Checked.the-variants.{Accepted}
 use Rattle.image.specs.declared.areas.Source.the-variants.{Operator, BuiltIn}
 use Rattle.refusal.proofs.Verdicts.{rule-fine, or-fine, fine-all}
-use Rattle.image.proofs.Faults.{not-or}
+use Rattle.image.proofs.Tests.{not-or}
 use Rattle.image.proofs.HeaderRules.{framed, cell-kept}
 use Rattle.image.proofs.Entries.{all-at, two-of, below-byte}
 use Rattle.image.proofs.Trees.{meant, either, by-kind}

@@ -17,7 +17,7 @@ use Rattle.codes.specs.Codes.{legal}
 use Rattle.image.specs.Inside.{wordsFrom}
 use Rattle.image.specs.Words.{listAt, entryOf, entries, wordAt}
 use Rattle.image.specs.Tree.{Action, end, _&_, named}
-use Rattle.image.proofs.Faults.{and-true}
+use Rattle.image.proofs.Tests.{and-true}
 
 -- a legal code fits a byte
 or-cases : (a b c : Bool) → (a || (b && c)) ≡ true → (a ≡ true) ⊎ (c ≡ true)

@@ -26,7 +26,7 @@ use Rattle.image.specs.declared.record.Action.the-variants as code
 use Rattle.refusal.specs.declared.Verdict.{Verdict}
 use Rattle.refusal.specs.declared.Verdict.the-variants.{Fine, Refused}
 use Rattle.refusal.proofs.Verdicts.{rule-no, rule-yes, rule-fine, rule-with}
-use Rattle.image.proofs.Faults.{and-true, and-false, or-false, not-or}
+use Rattle.image.proofs.Tests.{and-true, and-false, or-false, not-or}
 use Rattle.image.proofs.Entries.{length-entries, length-words, words-last, all-two}
 use Rattle.image.proofs.Trees.{tree-step, action-inside, by-kind}
 use Rattle.image.proofs.Weights.{Lower, sum-high, sum-lower, sum-few, every-one, every-last, shut-last, weights-last, entries-at, pair-words}

@@ -20,7 +20,7 @@ use Rattle.image.specs.declared.children.Weighed.{Weighed}
 use Rattle.image.specs.declared.children.Children.{Children}
 use Rattle.image.specs.Sound.{Good, Meant}
 use Rattle.image.specs.declared.record.Action.the-variants as code
-use Rattle.image.proofs.Faults.{and-true, and-assoc, or-false, not-or}
+use Rattle.image.proofs.Tests.{and-true, and-assoc, or-false, not-or}
 use Rattle.image.proofs.Entries.{length-entries, entries-words, words-none, words-on, words-tail}
 use Rattle.image.proofs.Trees.{action-inside, meant, by-kind}
 

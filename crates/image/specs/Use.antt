@@ -23,8 +23,8 @@ unfoldable pub areaFault : List ℕ → Verdict
 areaFault area = rule (leb 16 (length area)) Short 0 (headFault area (leb (sizeOf area) (length area)))
 
 unfoldable pub unlessFault : Verdict → Checked → Checked
-unlessFault Fine answer = answer
-unlessFault (Refused refusal place) answer = checked.Refused refusal place
+unlessFault Fine rest = rest
+unlessFault (Refused refusal place) rest = checked.Refused refusal place
 
 -- the check of an area: of the stretch that holds its image
 unfoldable pub areaOf : List ℕ → Checked

@@ -31,6 +31,13 @@ pub(crate) struct Children {
     pub weight: usize,
 }
 
+// One is not lower: nothing more is asked of them.
+const NOT_LOWER: Children = Children {
+    lower: false,
+    opens: false,
+    weight: 0,
+};
+
 fn either(a: bool, b: bool) -> bool
     ensures { λ r. ⌜ r ≡ (a || b) ⌝ }
 {
@@ -117,11 +124,7 @@ pub(crate) fn weigh_children(
     while 0 < left {
         let k = word(image, from) as usize;
         if n <= k {
-            return Children {
-                lower: false,
-                opens: false,
-                weight: 0,
-            };
+            return NOT_LOWER;
         }
         let child = child_at(image, records_at, list_at, k);
         from += 2;

@@ -1,5 +1,5 @@
 -- `image::header::header_good` meets its contract. Assumes nothing.
-use Rattle.image.proofs.Faults.{and-no, and-yes}
+use Rattle.image.proofs.Tests.{and-no, and-yes}
 use Rattle.image.specs.Check.{headerGood}
 use borrow.Author.Needs.{needs}
 use borrow.Author.Tests.{not-false, not-true}

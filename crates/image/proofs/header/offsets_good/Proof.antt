@@ -1,5 +1,5 @@
 -- `image::header::offsets_good` meets its contract: good counts keep the products small. Assumes nothing.
-use Rattle.image.proofs.Faults.{and-no, and-yes}
+use Rattle.image.proofs.Tests.{and-no, and-yes}
 use Rattle.image.proofs.HeaderRules.{Counts, counts, few-cells}
 use Rattle.image.specs.Check.{offsetsGood}
 use borrow.Author.Tests.{eq-eqb, ne-eqb}
