@@ -30,7 +30,8 @@ use Rattle.image.specs.Legal.{closed, closedAll, Times, holdable, legal,
 use Rattle.image.specs.Table.{tableOf, treeIn, longestBelow, timesOf}
 use Rattle.lists.specs.Lists.{every}
 use Rattle.lists.proofs.Laws.{both-true, every-head}
-use Rattle.image.specs.Check.{headFault, cellFault, recordFault, firstFault, bodyFault, faultOf, answer, checkOf}
+use Rattle.refusal.specs.Verdict.{firstFault}
+use Rattle.image.specs.Check.{headFault, cellFault, recordFault, bodyFault, faultOf, answer, checkOf}
 use Rattle.image.specs.Sound.{Sound, Meant}
 use Rattle.image.specs.Use.{areaOf, sourceOf}
 use Rattle.image.specs.declared.words.Shape.{Shape}
@@ -39,15 +40,16 @@ use Rattle.image.specs.declared.record.Action.the-variants as code
 use Rattle.image.specs.declared.record.Cell.{Cell}
 use Rattle.image.specs.declared.record.Cell.the-variants as cell
 use Rattle.image.specs.declared.record.Entry.the-variants as entry
-use Rattle.image.specs.declared.rules.Fault.{Fault}
-use Rattle.image.specs.declared.rules.Fault.the-variants.{Fine, At}
+use Rattle.refusal.specs.declared.Verdict.{Verdict}
+use Rattle.refusal.specs.declared.Verdict.the-variants.{Fine, Refused}
 use Rattle.image.specs.declared.rules.Checked.the-variants.{Accepted}
 use Rattle.image.specs.declared.areas.Source.the-variants.{Operator, BuiltIn}
-use Rattle.image.proofs.Faults.{not-or, rule-fine, or-fine, fine-all}
-use Rattle.image.proofs.Header.{framed, cell-kept}
+use Rattle.refusal.proofs.Verdicts.{rule-fine, or-fine, fine-all}
+use Rattle.image.proofs.Tests.{not-or}
+use Rattle.image.proofs.HeaderRules.{framed, cell-kept}
 use Rattle.image.proofs.Entries.{all-at, two-of, below-byte}
 use Rattle.image.proofs.Trees.{meant, either, by-kind}
-use Rattle.image.proofs.Records.{good}
+use Rattle.image.proofs.RecordRules.{good}
 use Rattle.image.proofs.Chosen.{area-accepted, operator-chosen, built-in-chosen}
 pub use Rattle.image.proofs.Entries.{entries-step, length-entries, all-head, all-tail, named-step, named-none}
 
@@ -62,10 +64,10 @@ sound img e =
       records = λ n l. good img n l (fine-all (recordFault img) (recordsOf img) (q .1) n l);
     }
 
-is-accepted : (f : Fault) (s t : Shape) → answer f s ≡ Accepted t → (f ≡ Fine) × (t ≡ s)
+is-accepted : (f : Verdict) (s t : Shape) → answer f s ≡ Accepted t → (f ≡ Fine) × (t ≡ s)
 unfolding answer
 is-accepted Fine s t e = (refl, cc)
-is-accepted (At r p) s t e = (cc, cc)
+is-accepted (Refused r p) s t e = (cc, cc)
 
 pub accepted : (img : List ℕ) (s : Shape) → checkOf img ≡ Accepted s → (s ≡ shapeOf img) × Sound img
 unfolding checkOf

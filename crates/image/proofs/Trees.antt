@@ -16,7 +16,8 @@ use Rattle.lists.proofs.Laws.{every-head}
 use Rattle.image.specs.Words.{recordsOf, entries}
 use Rattle.image.specs.Record.{actionOf, recordOf, actionAt, childrenIn}
 use Rattle.image.specs.Tree.{NoOp, MultipleActions, named, meaning, trees, below, tree}
-use Rattle.image.specs.Sound.{Good, Formed, Meant}
+use Rattle.image.specs.Inside.{Formed}
+use Rattle.image.specs.Sound.{Good, Meant}
 use Rattle.image.specs.declared.record.Action.{Action as Record}
 use Rattle.image.specs.declared.record.Action.the-variants as code
 use Rattle.image.proofs.Entries.{two-of}

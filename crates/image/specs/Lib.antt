@@ -5,5 +5,5 @@ pub mod Legal
 pub mod Table
 pub mod Check
 pub mod Sound
-pub mod Heft
+pub mod Inside
 pub mod Use

@@ -2,7 +2,10 @@
 // table in use. Document 01, "The table image".
 // Assumes nothing.
 pub mod areas;
+mod children;
+mod header;
 pub mod record;
+mod records;
 pub mod rules;
 pub mod words;
 
@@ -17,6 +20,5 @@ pub use record::action_at;
 pub use record::cell_at;
 pub use record::entry_at;
 pub use rules::Checked;
-pub use rules::Told;
 pub use rules::check;
 pub use words::Shape;
