@@ -3,17 +3,20 @@
 // Assumes nothing.
 use event::Event;
 use refusal::Refusal;
+use refusal::Verdict;
 ghost use mathlib.Core.Path.{_≡_};
 ghost use Prim.Native.Nat.{_+_, _*_, _≤_, _<_};
 ghost use lib.ListN.{length, take};
 ghost use lib.Seq.{sets};
-ghost use Rattle.lists.specs.Lists.{alike, every, laid};
+ghost use Rattle.lists.specs.Lists.{alike, every};
 ghost use Rattle.event.specs.Bytes.{bytesOf};
 ghost use Rattle.debounce.specs.Picture.{padded, isPicture, isScan};
-ghost use Rattle.debounce.specs.Events.{eventAt, changeAt, changes, written};
-ghost use Rattle.debounce.specs.Step as bounce;
-ghost use Rattle.debounce.specs.Calls.{sizesGood, bounceGood, stateGood, switches, makingVerdict, getVerdict, updateVerdict, eventsVerdict, bounceOf, withBounce, made, got, updated, told, buffered, numberIn, changeOf, countOf};
-ghost use Rattle.debounce.specs.Inside.{atMost, stepOut, eventsIn};
+ghost use Rattle.debounce.specs.Events.{eventAt, changeAt, changes};
+ghost use Rattle.debounce.specs.Step as filter;
+ghost use Rattle.debounce.specs.Calls.{sizesGood, bounceGood, stateGood, switches, makingVerdict, updateVerdict, eventsVerdict};
+ghost use Rattle.debounce.specs.Calls.{picturesOf, withPictures, madeSaid, gotSaid, updatedSaid, handed, changeOf, countOf};
+ghost use Rattle.debounce.specs.Calls.{newReply, getReply, updateReply, eventsReply};
+ghost use Rattle.debounce.specs.Inside.{atMost, stepOut, eventsIn, AddedTo, WrittenTo, Roomy};
 
 // The accepted picture, the candidate, for how many scans the candidate has stood, and the size. A switch that is down is
 // 1, one that is up 0, row by row; places past the last switch are 0.
@@ -24,12 +27,6 @@ pub struct Debouncer {
     pub nb_bounce: u16,
     pub rows: usize,
     pub columns: usize,
-}
-
-// Whether a call is refused.
-pub enum Verdict {
-    Fine,
-    Refused(Refusal),
 }
 
 pub struct Made {
@@ -58,48 +55,40 @@ pub enum Telling {
     Refused(Refusal),
 }
 
-pub struct Told {
+pub struct Answered {
     pub telling: Telling,
     pub debouncer: Debouncer,
 }
 
-// The number of an update's answer, as document 01 counts refusals, and its value: 0 where nothing is refused, and no
-// change where something is.
+// The number and the place of an update's answer, as document 01 counts refusals, and its value: 0 and 0 where nothing is
+// refused; no change where something is, at place 0.
 pub struct Change {
     pub number: u8,
+    pub place: usize,
     pub changed: bool,
 }
 
 // The same of a telling: no events where it is refused.
 pub struct Count {
     pub number: u8,
+    pub place: usize,
     pub count: usize,
 }
 
-impl Verdict {
-    // The paper's number, for programs that print it: 0 where nothing is refused.
-    pub fn number(self) -> u8
-        ensures { λ r. ⌜ r ≡ numberIn self ⌝ }
-    {
-        match self {
-            Verdict::Fine => 0,
-            Verdict::Refused(refusal) => refusal.number(),
-        }
-    }
-}
-
 impl Update {
-    // The paper's number and value.
+    // The paper's number, place and value.
     pub fn told(self) -> Change
         ensures { λ r. ⌜ r ≡ changeOf self ⌝ }
     {
         match self {
             Update::Changed(yes) => Change {
                 number: 0,
+                place: 0,
                 changed: yes,
             },
             Update::Refused(refusal) => Change {
                 number: refusal.number(),
+                place: 0,
                 changed: false,
             },
         }
@@ -107,14 +96,19 @@ impl Update {
 }
 
 impl Telling {
-    // The paper's number and value.
+    // The paper's number, place and value.
     pub fn told(self) -> Count
         ensures { λ r. ⌜ r ≡ countOf self ⌝ }
     {
         match self {
-            Telling::Events(count) => Count { number: 0, count },
+            Telling::Events(count) => Count {
+                number: 0,
+                place: 0,
+                count,
+            },
             Telling::Refused(refusal) => Count {
                 number: refusal.number(),
+                place: 0,
                 count: 0,
             },
         }
@@ -205,14 +199,14 @@ fn bounce_good(rows: usize, columns: usize, nb_bounce: u16) -> bool
     sizes_good(rows, columns) && nb_bounce < 65535
 }
 
-// The event of the switch at a place, which is now so.
-fn event_at(columns: usize, place: usize, now: u8) -> Event
+// The event of the switch at a place, which now is so.
+fn event_at(columns: usize, place: usize, is: u8) -> Event
     requires { ⌜ (0 < columns) × (columns ≤ 16) × (place < 128) ⌝ }
-    ensures { λ r. ⌜ r ≡ eventAt columns place now ⌝ }
+    ensures { λ r. ⌜ r ≡ eventAt columns place is ⌝ }
 {
     let i = (place / columns) as u8;
     let j = (place % columns) as u8;
-    if now == 0 {
+    if is == 0 {
         return Event::Release(i, j);
     }
     Event::Press(i, j)
@@ -229,36 +223,36 @@ fn put_event(out: &mut [u8], at: usize, event: Event)
     out[at + 2] = b[2];
 }
 
-// Where a switch differs, one event more behind the `told` that stand in the buffer.
-fn tell_place(was: u8, is: u8, columns: usize, place: usize, out: &mut [u8], told: usize) -> usize
-    requires { ⌜ (0 < columns) × (columns ≤ 16) × (place < 128) × (told < 128) × (3 * told + 3 ≤ length (now out)) ⌝ }
-    ensures { λ r. ⌜ (r ≡ told + length (changeAt columns place was is)) × (now (out .exit) ≡ sets (now (out .entry)) (3 * told) (written (changeAt columns place was is))) ⌝ }
+// Where a switch differs, one event more behind the `count` that stand in the buffer.
+fn tell_place(was: u8, is: u8, columns: usize, place: usize, out: &mut [u8], count: usize) -> usize
+    requires { ⌜ (0 < columns) × (columns ≤ 16) × (place < 128) × (count < 128) × (3 * count + 3 ≤ length (now out)) ⌝ }
+    ensures { λ r. ⌜ AddedTo (now (out .entry)) count (changeAt columns place was is) r (now (out .exit)) ⌝ }
 {
     if was == is {
-        return told;
+        return count;
     }
-    put_event(out, 3 * told, event_at(columns, place, is));
-    told + 1
+    put_event(out, 3 * count, event_at(columns, place, is));
+    count + 1
 }
 
 // The events between two pictures of n switches, from the start of the buffer on; and how many.
 fn tell(before: [u8; 128], after: [u8; 128], n: usize, columns: usize, out: &mut [u8]) -> usize
     requires { ⌜ (n ≤ 128) × (0 < columns) × (columns ≤ 16) × (3 * n ≤ length (now out)) ⌝ }
-    ensures { λ r. ⌜ (r ≡ length (changes columns 0 (take n before) (take n after))) × (now (out .exit) ≡ laid (written (changes columns 0 (take n before) (take n after))) (now (out .entry))) ⌝ }
+    ensures { λ r. ⌜ WrittenTo (now (out .entry)) (changes columns 0 (take n before) (take n after)) r (now (out .exit)) ⌝ }
 {
-    let mut told = 0;
+    let mut count = 0;
     let mut place = 0;
     while place < n {
-        told = tell_place(before[place], after[place], columns, place, out, told);
+        count = tell_place(before[place], after[place], columns, place, out, count);
         place += 1;
     }
-    told
+    count
 }
 
 // The events of a step, in the buffer, and how many.
 fn tell_step(step: Step, out: &mut [u8]) -> usize
-    requires { ⌜ (0 < step .debouncer .columns) × (step .debouncer .columns ≤ 16) × (switches (step .debouncer) ≤ 128) × (3 * switches (step .debouncer) ≤ length (now out)) ⌝ }
-    ensures { λ r. ⌜ (r ≡ length (eventsIn step)) × (now (out .exit) ≡ laid (written (eventsIn step)) (now (out .entry))) ⌝ }
+    requires { ⌜ Roomy (step .debouncer) (length (now out)) ⌝ }
+    ensures { λ r. ⌜ WrittenTo (now (out .entry)) (eventsIn step) r (now (out .exit)) ⌝ }
 {
     if !step.changed {
         return 0;
@@ -281,10 +275,10 @@ fn making_verdict(
     ensures { λ r. ⌜ r ≡ makingVerdict rows columns «nb_bounce» (now (start .entry)) ⌝ }
 {
     if !bounce_good(rows, columns, nb_bounce) {
-        return Verdict::Refused(Refusal::Bounce);
+        return Verdict::Refused(Refusal::Bounce, 0);
     }
     if !is_scan(start, places, rows * columns) {
-        return Verdict::Refused(Refusal::Scan);
+        return Verdict::Refused(Refusal::Scan, 0);
     }
     Verdict::Fine
 }
@@ -293,7 +287,7 @@ impl Debouncer {
     // A scan that differs from the accepted picture: it becomes the candidate, or has stood for one scan more.
     fn grown(mut self, scan: [u8; 128]) -> Debouncer
         requires { ⌜ self .since < 65535 ⌝ }
-        ensures { λ r. ⌜ r ≡ withBounce self (bounce.grown alike (self .«nb_bounce») (bounceOf self) scan) ⌝ }
+        ensures { λ r. ⌜ r ≡ withPictures self (filter.grown alike (self .«nb_bounce») (picturesOf self) scan) ⌝ }
     {
         if are_alike(&self.new, &scan) {
             self.since += 1;
@@ -306,7 +300,7 @@ impl Debouncer {
 
     // Once since passes nb_bounce the two pictures change places.
     fn passed(mut self) -> Step
-        ensures { λ r. ⌜ r ≡ stepOut self (bounce.passed alike (self .«nb_bounce») (bounceOf self)) ⌝ }
+        ensures { λ r. ⌜ r ≡ stepOut self (filter.passed alike (self .«nb_bounce») (picturesOf self)) ⌝ }
     {
         if self.since <= self.nb_bounce {
             return Step {
@@ -328,7 +322,7 @@ impl Debouncer {
     // One scan.
     fn step(mut self, scan: [u8; 128]) -> Step
         requires { ⌜ self .since < 65535 ⌝ }
-        ensures { λ r. ⌜ r ≡ stepOut self (bounce.step alike (self .«nb_bounce») (bounceOf self) scan) ⌝ }
+        ensures { λ r. ⌜ r ≡ stepOut self (filter.step alike (self .«nb_bounce») (picturesOf self) scan) ⌝ }
     {
         if are_alike(&self.cur, &scan) {
             self.since = 0;
@@ -361,10 +355,10 @@ impl Debouncer {
         ensures { λ r. ⌜ r ≡ updateVerdict self (now (scan .entry)) ⌝ }
     {
         if !self.state_good() {
-            return Verdict::Refused(Refusal::State);
+            return Verdict::Refused(Refusal::State, 0);
         }
         if !is_scan(scan, places, self.rows * self.columns) {
-            return Verdict::Refused(Refusal::Scan);
+            return Verdict::Refused(Refusal::Scan, 0);
         }
         Verdict::Fine
     }
@@ -377,17 +371,17 @@ impl Debouncer {
         match verdict {
             Verdict::Fine => {
                 if room < 3 * (self.rows * self.columns) {
-                    return Verdict::Refused(Refusal::Room);
+                    return Verdict::Refused(Refusal::Room, 0);
                 }
                 Verdict::Fine
             }
-            Verdict::Refused(refusal) => Verdict::Refused(refusal),
+            Verdict::Refused(refusal, place) => Verdict::Refused(refusal, place),
         }
     }
 
     // A debouncer whose start picture is accepted and candidate. Where it is refused: all up, 1 by 1, nb_bounce 0.
     pub fn new(rows: usize, columns: usize, nb_bounce: u16, start: &[u8]) -> Made
-        ensures { λ r. ⌜ r ≡ made (makingVerdict rows columns «nb_bounce» (now (start .entry))) rows columns «nb_bounce» (now (start .entry)) ⌝ }
+        ensures { λ r. ⌜ madeSaid r ≡ newReply rows columns «nb_bounce» (now (start .entry)) ⌝ }
     {
         let places = pad(start);
         let verdict = making_verdict(rows, columns, nb_bounce, start, places);
@@ -403,8 +397,8 @@ impl Debouncer {
                     columns,
                 },
             },
-            Verdict::Refused(refusal) => Made {
-                verdict: Verdict::Refused(refusal),
+            Verdict::Refused(refusal, place) => Made {
+                verdict: Verdict::Refused(refusal, place),
                 debouncer: Debouncer {
                     cur: [0; 128],
                     new: [0; 128],
@@ -419,11 +413,11 @@ impl Debouncer {
 
     // The accepted picture.
     pub fn get(self) -> Got
-        ensures { λ r. ⌜ r ≡ got (getVerdict self) self ⌝ }
+        ensures { λ r. ⌜ gotSaid r ≡ getReply self ⌝ }
     {
         if !self.state_good() {
             return Got {
-                verdict: Verdict::Refused(Refusal::State),
+                verdict: Verdict::Refused(Refusal::State, 0),
                 picture: [0; 128],
             };
         }
@@ -436,7 +430,7 @@ impl Debouncer {
 
     // Takes a scan, and answers whether the accepted picture changed.
     pub fn update(self, scan: &[u8]) -> Updated
-        ensures { λ r. ⌜ r ≡ updated (updateVerdict self (now (scan .entry))) self (now (scan .entry)) ⌝ }
+        ensures { λ r. ⌜ updatedSaid r ≡ updateReply self (now (scan .entry)) ⌝ }
     {
         let places = pad(scan);
         let verdict = self.update_verdict(scan, places);
@@ -449,7 +443,7 @@ impl Debouncer {
                     debouncer,
                 }
             }
-            Verdict::Refused(refusal) => Updated {
+            Verdict::Refused(refusal, _) => Updated {
                 update: Update::Refused(refusal),
                 debouncer: self,
             },
@@ -457,8 +451,8 @@ impl Debouncer {
     }
 
     // Takes a scan, and writes the events of the change, if there is one, to the start of the buffer.
-    pub fn events(self, scan: &[u8], out: &mut [u8]) -> Told
-        ensures { λ r. ⌜ (r ≡ told (eventsVerdict self (now (scan .entry)) (length (now (out .entry)))) self (now (scan .entry))) × (now (out .exit) ≡ buffered (eventsVerdict self (now (scan .entry)) (length (now (out .entry)))) self (now (scan .entry)) (now (out .entry))) ⌝ }
+    pub fn events(self, scan: &[u8], out: &mut [u8]) -> Answered
+        ensures { λ r. ⌜ handed r (now (out .exit)) ≡ eventsReply self (now (scan .entry)) (now (out .entry)) ⌝ }
     {
         let places = pad(scan);
         let verdict = self.events_verdict(scan, places, out.len());
@@ -467,12 +461,12 @@ impl Debouncer {
                 let step = self.step(places);
                 let debouncer = step.debouncer;
                 let count = tell_step(step, out);
-                Told {
+                Answered {
                     telling: Telling::Events(count),
                     debouncer,
                 }
             }
-            Verdict::Refused(refusal) => Told {
+            Verdict::Refused(refusal, _) => Answered {
                 telling: Telling::Refused(refusal),
                 debouncer: self,
             },

@@ -15,11 +15,11 @@ cast-j c = omega (arith, mod-le (c .args .place) (c .args .columns))
 
 returns : tie.Need-returns
 unfolding eventAt
-returns c = rw (eq-eqb (c .before .args .now) 0 (c .if1 .taken))
+returns c = rw (eq-eqb (c .before .args .is) 0 (c .if1 .taken))
 
 returns-2 : tie.Need-returns-2
 unfolding eventAt
-returns-2 c = rw (ne-eqb (c .before .args .now) 0 (c .if1 .left))
+returns-2 c = rw (ne-eqb (c .before .args .is) 0 (c .if1 .left))
 
 pub event-at-spec : {M : Type 1} → statement M
 event-at-spec =

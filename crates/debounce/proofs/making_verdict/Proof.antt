@@ -4,7 +4,8 @@ use mathlib.Core.Bool.{true}
 use mathlib.Core.Path.{_≡_, sym, _∙_}
 use borrow.Author.Tests.{not-true, not-false}
 use native.Mathlib.Omega.{arith}
-use Rattle.debounce.specs.Calls.{bounceGood, rule, makingVerdict}
+use Rattle.refusal.specs.Verdict.{rule}
+use Rattle.debounce.specs.Calls.{bounceGood, makingVerdict}
 use Rattle.debounce.proofs.States.{sized}
 use Rattle.debounce.proofs.bounce_good.Reads as bounce-good
 use Rattle.debounce.proofs.is_scan.Reads as is-scan

@@ -14,13 +14,13 @@ use Rattle.debounce.proofs.tell.Statement.{statement}
 use Rattle.debounce.proofs.tell.Tie as tie
 
 abbrev Inv-loop : tie.InvT-loop
-Inv-loop n columns out₀ before after told₀ place₀ out told place = (place ≤ n) × (told ≤ place) × (length out ≡ length out₀)
-    × (told + length (changes columns place (drop place (take n before)) (drop place (take n after))) ≡ length (changes columns 0 (take n before) (take n after)))
-    × (take (3 * told) out ++ written (changes columns place (drop place (take n before)) (drop place (take n after))) ≡ written (changes columns 0 (take n before) (take n after)))
-    × (drop (3 * told) out ≡ drop (3 * told) out₀)
+Inv-loop n columns out₀ before after count₀ place₀ out count place = (place ≤ n) × (count ≤ place) × (length out ≡ length out₀)
+    × (count + length (changes columns place (drop place (take n before)) (drop place (take n after))) ≡ length (changes columns 0 (take n before) (take n after)))
+    × (take (3 * count) out ++ written (changes columns place (drop place (take n before)) (drop place (take n after))) ≡ written (changes columns 0 (take n before) (take n after)))
+    × (drop (3 * count) out ≡ drop (3 * count) out₀)
 
 abbrev μ-loop : tie.MeasureT-loop
-μ-loop n columns out₀ before after told₀ place₀ out told place = n - place
+μ-loop n columns out₀ before after count₀ place₀ out count place = n - place
 
 loop-holds : tie.Need-loop-holds Inv-loop μ-loop
 loop-holds c = (omega arith, omega arith, refl, omega arith, refl, refl)
@@ -36,7 +36,7 @@ loop-again c =
     let long-after : length (a .t2) ≡ 128 = search needs in
     let pre = at-loop .before .before .pre in
     let turn =
-    tell-turn (a .columns) (l .place) (l .told) (c .before .before .tell-place .result) (take (a .n) (a .t1)) (take (a .n) (a .t2)) (l .out) (a .out .now)
+    tell-turn (a .columns) (l .place) (l .count) (c .before .before .tell-place .result) (take (a .n) (a .t1)) (take (a .n) (a .t2)) (l .out) (a .out .now)
     (c .before .before .tell-place .last .1 .1 .1 .1 .0) (changes (a .columns) 0 (take (a .n) (a .t1)) (take (a .n) (a .t2)))
     (omega (arith, length-take (a .n) (a .t1))) (omega (arith, length-take (a .n) (a .t2))) (l .inv .1) (omega arith) (l .inv .2) (l .inv .3) (l .inv .4) (l .inv .5)
     (rw (getD-take (a .n) (a .t1) (l .place) 0 inside, getD-take (a .n) (a .t2) (l .place) 0 inside) (ens .0))
@@ -52,11 +52,11 @@ returns c =
     let N = take (a .n) (a .t2) in
     let none = changes-none (a .columns) (l .place) O (drop (l .place) N) (omega (arith, length-take (a .n) (a .t1), c .loop-test .left)) in
     let many = l .inv .3 in
-    let count : l .told ≡ length (changes (a .columns) 0 O N) = omega (arith, ap (λ (es : List Event). length es) none) in (
-      count,
-      laid-is (l .out) (a .out .now) (written (changes (a .columns) 0 O N)) (3 * l .told)
+    let all-told : l .count ≡ length (changes (a .columns) 0 O N) = omega (arith, ap (λ (es : List Event). length es) none) in (
+      all-told,
+      laid-is (l .out) (a .out .now) (written (changes (a .columns) 0 O N)) (3 * l .count)
           (omega (arith, length-written (changes (a .columns) 0 O N)))
-          (sym (ap (λ (es : List Event). take (3 * l .told) (l .out) ++ written es) none ∙ empty-written (take (3 * l .told) (l .out))) ∙ l .inv .4)
+          (sym (ap (λ (es : List Event). take (3 * l .count) (l .out) ++ written es) none ∙ empty-written (take (3 * l .count) (l .out))) ∙ l .inv .4)
           (l .inv .5),
     )
 

@@ -13,9 +13,9 @@ returns c = rw (not-true (c .before .before .before .args .step .changed) (c .if
 returns-2 : tie.Need-returns-2
 unfolding written
 returns-2 c =
-    let told = c .before .before in
-    let changed = told .before .before .before .before .before .before in
-    rw (not-false (changed .before .before .before .args .step .changed) (changed .if1 .left)) (told .tell .ensures)
+    let written-all = c .before .before in
+    let changed = written-all .before .before .before .before .before .before in
+    rw (not-false (changed .before .before .before .args .step .changed) (changed .if1 .left)) (written-all .tell .ensures)
 
 pub tell-step-spec : {M : Type 1} → statement M
 tell-step-spec =
