@@ -1,22 +1,24 @@
 // keyberon's debounce.rs: filters the bounces of switches. A change is taken once it has stood for more than `nb_bounce`
-// scans, and is told as events. Document 01, Debounce.
+// scans, and is told as events. Here the debouncer, its answers and its calls; verdicts.rt says what is refused, picture.rt has
+// pictures and scans, events.rt writes the events. Document 01, Debounce.
 // Assumes nothing.
-use event::Event;
+mod events;
+mod picture;
+mod verdicts;
+
+use events::tell_step;
+use picture::are_alike;
+use picture::pad;
 use refusal::Refusal;
 use refusal::Verdict;
+use verdicts::making_verdict;
 ghost use mathlib.Core.Path.{_≡_};
-ghost use Prim.Native.Nat.{_+_, _*_, _≤_, _<_};
-ghost use lib.ListN.{length, take};
-ghost use lib.Seq.{sets};
-ghost use Rattle.lists.specs.Lists.{alike, every};
-ghost use Rattle.event.specs.Bytes.{bytesOf};
-ghost use Rattle.debounce.specs.Picture.{padded, isPicture, isScan};
-ghost use Rattle.debounce.specs.Events.{eventAt, changeAt, changes};
+ghost use Prim.Native.Nat.{_<_};
+ghost use Rattle.lists.specs.Lists.{alike};
 ghost use Rattle.debounce.specs.Step as filter;
-ghost use Rattle.debounce.specs.Calls.{sizesGood, bounceGood, stateGood, switches, makingVerdict, updateVerdict, eventsVerdict};
 ghost use Rattle.debounce.specs.Calls.{picturesOf, withPictures, madeSaid, gotSaid, updatedSaid, handed, changeOf, countOf};
 ghost use Rattle.debounce.specs.Calls.{newReply, getReply, updateReply, eventsReply};
-ghost use Rattle.debounce.specs.Inside.{atMost, stepOut, eventsIn, AddedTo, WrittenTo, Roomy};
+ghost use Rattle.debounce.specs.Inside.{stepOut};
 
 // The accepted picture, the candidate, for how many scans the candidate has stood, and the size. A switch that is down is
 // 1, one that is up 0, row by row; places past the last switch are 0.
@@ -116,171 +118,9 @@ impl Telling {
 }
 
 // What one scan leaves, and whether the accepted picture changed.
-struct Step {
-    changed: bool,
-    debouncer: Debouncer,
-}
-
-// Whether each place is at most so much. This loop and the next go to the end whatever they find, so that the compiler can
-// take many places at once.
-fn are_at_most(places: &[u8], most: u8) -> bool
-    ensures { λ r. ⌜ r ≡ every (atMost most) (now (places .entry)) ⌝ }
-{
-    let mut good = true;
-    let mut i = 0;
-    while i < places.len() {
-        if most < places[i] {
-            good = false;
-        }
-        i += 1;
-    }
-    good
-}
-
-fn are_alike(a: &[u8], b: &[u8]) -> bool
-    requires { ⌜ length (now a) ≡ length (now b) ⌝ }
-    ensures { λ r. ⌜ r ≡ alike (now (a .entry)) (now (b .entry)) ⌝ }
-{
-    let mut good = true;
-    let mut i = 0;
-    while i < a.len() {
-        if a[i] != b[i] {
-            good = false;
-        }
-        i += 1;
-    }
-    good
-}
-
-// A scan in its 128 places; what is past them is left out.
-fn pad(scan: &[u8]) -> [u8; 128]
-    ensures { λ r. ⌜ r ≡ padded (take 128 (now (scan .entry))) ⌝ }
-{
-    let mut places = [0u8; 128];
-    let mut i = 0;
-    while i < scan.len() && i < 128 {
-        places[i] = scan[i];
-        i += 1;
-    }
-    places
-}
-
-// Once the places past n are 0, all 128 tell of the first n. A fixed number of places takes fewer steps than n do.
-fn is_picture(places: [u8; 128], n: usize) -> bool
-    requires { ⌜ n ≤ 128 ⌝ }
-    ensures { λ r. ⌜ r ≡ isPicture n places ⌝ }
-{
-    are_at_most(&places[n..], 0) && are_at_most(&places, 1)
-}
-
-// Told by the scan's places, for the same reason.
-fn is_scan(scan: &[u8], places: [u8; 128], n: usize) -> bool
-    requires { ⌜ (n ≤ 128) × (places ≡ padded (take 128 (now scan))) ⌝ }
-    ensures { λ r. ⌜ r ≡ isScan n (now (scan .entry)) ⌝ }
-{
-    scan.len() == n && are_at_most(&places, 1)
-}
-
-fn sizes_good(rows: usize, columns: usize) -> bool
-    ensures { λ r. ⌜ r ≡ sizesGood rows columns ⌝ }
-{
-    if rows < 1 {
-        return false;
-    }
-    if 8 < rows {
-        return false;
-    }
-    1 <= columns && columns <= 16
-}
-
-fn bounce_good(rows: usize, columns: usize, nb_bounce: u16) -> bool
-    ensures { λ r. ⌜ r ≡ bounceGood rows columns «nb_bounce» ⌝ }
-{
-    sizes_good(rows, columns) && nb_bounce < 65535
-}
-
-// The event of the switch at a place, which now is so.
-fn event_at(columns: usize, place: usize, is: u8) -> Event
-    requires { ⌜ (0 < columns) × (columns ≤ 16) × (place < 128) ⌝ }
-    ensures { λ r. ⌜ r ≡ eventAt columns place is ⌝ }
-{
-    let i = (place / columns) as u8;
-    let j = (place % columns) as u8;
-    if is == 0 {
-        return Event::Release(i, j);
-    }
-    Event::Press(i, j)
-}
-
-// An event's three bytes, at a place of the buffer.
-fn put_event(out: &mut [u8], at: usize, event: Event)
-    requires { ⌜ at + 3 ≤ length (now out) ⌝ }
-    ensures { λ _. ⌜ now (out .exit) ≡ sets (now (out .entry)) at (bytesOf event) ⌝ }
-{
-    let b = event.bytes();
-    out[at] = b[0];
-    out[at + 1] = b[1];
-    out[at + 2] = b[2];
-}
-
-// Where a switch differs, one event more behind the `count` that stand in the buffer.
-fn tell_place(was: u8, is: u8, columns: usize, place: usize, out: &mut [u8], count: usize) -> usize
-    requires { ⌜ (0 < columns) × (columns ≤ 16) × (place < 128) × (count < 128) × (3 * count + 3 ≤ length (now out)) ⌝ }
-    ensures { λ r. ⌜ AddedTo (now (out .entry)) count (changeAt columns place was is) r (now (out .exit)) ⌝ }
-{
-    if was == is {
-        return count;
-    }
-    put_event(out, 3 * count, event_at(columns, place, is));
-    count + 1
-}
-
-// The events between two pictures of n switches, from the start of the buffer on; and how many.
-fn tell(before: [u8; 128], after: [u8; 128], n: usize, columns: usize, out: &mut [u8]) -> usize
-    requires { ⌜ (n ≤ 128) × (0 < columns) × (columns ≤ 16) × (3 * n ≤ length (now out)) ⌝ }
-    ensures { λ r. ⌜ WrittenTo (now (out .entry)) (changes columns 0 (take n before) (take n after)) r (now (out .exit)) ⌝ }
-{
-    let mut count = 0;
-    let mut place = 0;
-    while place < n {
-        count = tell_place(before[place], after[place], columns, place, out, count);
-        place += 1;
-    }
-    count
-}
-
-// The events of a step, in the buffer, and how many.
-fn tell_step(step: Step, out: &mut [u8]) -> usize
-    requires { ⌜ Roomy (step .debouncer) (length (now out)) ⌝ }
-    ensures { λ r. ⌜ WrittenTo (now (out .entry)) (eventsIn step) r (now (out .exit)) ⌝ }
-{
-    if !step.changed {
-        return 0;
-    }
-    let debouncer = step.debouncer;
-    let before = debouncer.new;
-    let after = debouncer.cur;
-    let n = debouncer.rows * debouncer.columns;
-    tell(before, after, n, debouncer.columns, out)
-}
-
-fn making_verdict(
-    rows: usize,
-    columns: usize,
-    nb_bounce: u16,
-    start: &[u8],
-    places: [u8; 128],
-) -> Verdict
-    requires { ⌜ places ≡ padded (take 128 (now start)) ⌝ }
-    ensures { λ r. ⌜ r ≡ makingVerdict rows columns «nb_bounce» (now (start .entry)) ⌝ }
-{
-    if !bounce_good(rows, columns, nb_bounce) {
-        return Verdict::Refused(Refusal::Bounce, 0);
-    }
-    if !is_scan(start, places, rows * columns) {
-        return Verdict::Refused(Refusal::Scan, 0);
-    }
-    Verdict::Fine
+pub(crate) struct Step {
+    pub changed: bool,
+    pub debouncer: Debouncer,
 }
 
 impl Debouncer {
@@ -332,51 +172,6 @@ impl Debouncer {
             };
         }
         self.grown(scan).passed()
-    }
-
-    // Whether no part of the state breaks its rule.
-    fn state_good(self) -> bool
-        ensures { λ r. ⌜ r ≡ stateGood self ⌝ }
-    {
-        if !bounce_good(self.rows, self.columns, self.nb_bounce) {
-            return false;
-        }
-        if self.nb_bounce < self.since {
-            return false;
-        }
-        let n = self.rows * self.columns;
-        let cur = self.cur;
-        let new = self.new;
-        is_picture(cur, n) && is_picture(new, n)
-    }
-
-    fn update_verdict(self, scan: &[u8], places: [u8; 128]) -> Verdict
-        requires { ⌜ places ≡ padded (take 128 (now scan)) ⌝ }
-        ensures { λ r. ⌜ r ≡ updateVerdict self (now (scan .entry)) ⌝ }
-    {
-        if !self.state_good() {
-            return Verdict::Refused(Refusal::State, 0);
-        }
-        if !is_scan(scan, places, self.rows * self.columns) {
-            return Verdict::Refused(Refusal::Scan, 0);
-        }
-        Verdict::Fine
-    }
-
-    fn events_verdict(self, scan: &[u8], places: [u8; 128], room: usize) -> Verdict
-        requires { ⌜ places ≡ padded (take 128 (now scan)) ⌝ }
-        ensures { λ r. ⌜ r ≡ eventsVerdict self (now (scan .entry)) room ⌝ }
-    {
-        let verdict = self.update_verdict(scan, places);
-        match verdict {
-            Verdict::Fine => {
-                if room < 3 * (self.rows * self.columns) {
-                    return Verdict::Refused(Refusal::Room, 0);
-                }
-                Verdict::Fine
-            }
-            Verdict::Refused(refusal, place) => Verdict::Refused(refusal, place),
-        }
     }
 
     // A debouncer whose start picture is accepted and candidate. Where it is refused: all up, 1 by 1, nb_bounce 0.

@@ -7,8 +7,8 @@ use Rattle.debounce.specs.Calls.{eventsVerdict, ifFine, eventsOf}
 use Rattle.refusal.specs.declared.Verdict.the-variants.{Fine}
 use Rattle.debounce.proofs.Laws.{pad-fits}
 use Rattle.debounce.proofs.States.{events-fine, events-place}
-use Rattle.debounce.proofs.pad.Reads as pad
-use Rattle.debounce.proofs.tell_step.Reads as tell-step
+use Rattle.debounce.proofs.picture.pad.Reads as pad
+use Rattle.debounce.proofs.events.tell_step.Reads as tell-step
 use Rattle.debounce.proofs.Debouncer.step.Reads as step
 use Rattle.debounce.proofs.Debouncer.events_verdict.Reads as events-verdict
 use Rattle.debounce.proofs.Debouncer.events.Reads as reads

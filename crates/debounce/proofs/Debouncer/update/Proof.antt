@@ -6,7 +6,7 @@ use Rattle.debounce.specs.Calls.{updateVerdict, ifFine}
 use Rattle.refusal.specs.declared.Verdict.the-variants.{Fine}
 use Rattle.debounce.proofs.Laws.{pad-fits}
 use Rattle.debounce.proofs.States.{update-fine, update-place}
-use Rattle.debounce.proofs.pad.Reads as pad
+use Rattle.debounce.proofs.picture.pad.Reads as pad
 use Rattle.debounce.proofs.Debouncer.step.Reads as step
 use Rattle.debounce.proofs.Debouncer.update_verdict.Reads as update-verdict
 use Rattle.debounce.proofs.Debouncer.update.Reads as reads

@@ -1,4 +1,4 @@
--- `debounce::is_scan` meets its contract. Assumes nothing.
+-- `debounce::picture::is_scan` meets its contract. Assumes nothing.
 use borrow.Author.Needs.{needs}
 use mathlib.Core.Path.{ap, _∙_}
 use borrow.Author.Tests.{eq-eqb, ne-eqb}
@@ -7,8 +7,8 @@ use native.Mathlib.Omega.{arith}
 use Rattle.lists.specs.Lists.{every}
 use Rattle.debounce.specs.Picture.{binary, isScan}
 use Rattle.debounce.proofs.Laws.{pad-fits, pad-binary}
-use Rattle.debounce.proofs.is_scan.Statement.{statement}
-use Rattle.debounce.proofs.is_scan.Tie as tie
+use Rattle.debounce.proofs.picture.is_scan.Statement.{statement}
+use Rattle.debounce.proofs.picture.is_scan.Tie as tie
 
 returns : tie.Need-returns
 unfolding isScan

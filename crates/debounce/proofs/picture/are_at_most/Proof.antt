@@ -1,4 +1,4 @@
--- `debounce::are_at_most` meets its contract: whether each place so far is at most so much, and the places that are left, decide. Assumes nothing.
+-- `debounce::picture::are_at_most` meets its contract: whether each place so far is at most so much, and the places that are left, decide. Assumes nothing.
 use borrow.Author.Needs.{needs}
 use Prim.Native.Nat.{_-_}
 use mathlib.Core.Bool.{_&&_}
@@ -10,8 +10,8 @@ use native.Mathlib.Omega.{arith}
 use Rattle.lists.specs.Lists.{every}
 use Rattle.lists.proofs.Laws.{every-on, every-fails, every-none, seen-fails, seen-all}
 use Rattle.debounce.specs.Inside.{atMost}
-use Rattle.debounce.proofs.are_at_most.Statement.{statement}
-use Rattle.debounce.proofs.are_at_most.Tie as tie
+use Rattle.debounce.proofs.picture.are_at_most.Statement.{statement}
+use Rattle.debounce.proofs.picture.are_at_most.Tie as tie
 
 abbrev Inv-loop : tie.InvT-loop
 Inv-loop places most good₀ i₀ good i = every (atMost most) places ≡ good && every (atMost most) (drop i places)

@@ -1,12 +1,12 @@
--- `debounce::tell_place` meets its contract. Assumes nothing.
+-- `debounce::events::tell_place` meets its contract. Assumes nothing.
 use borrow.Author.Needs.{needs}
 use borrow.Author.Tests.{eq-eqb, ne-eqb}
 use mathlib.Core.Path.{refl, _∙_}
 use mathlib.Core.List.{append-nil}
 use native.Mathlib.Omega.{arith}
 use Rattle.debounce.specs.Events.{changeAt, written}
-use Rattle.debounce.proofs.tell_place.Statement.{statement}
-use Rattle.debounce.proofs.tell_place.Tie as tie
+use Rattle.debounce.proofs.events.tell_place.Statement.{statement}
+use Rattle.debounce.proofs.events.tell_place.Tie as tie
 
 returns : tie.Need-returns
 unfolding changeAt written

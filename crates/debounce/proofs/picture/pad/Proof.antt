@@ -1,4 +1,4 @@
--- `debounce::pad` meets its contract: so many bytes of the scan, and zeros. Assumes nothing.
+-- `debounce::picture::pad` meets its contract: so many bytes of the scan, and zeros. Assumes nothing.
 use borrow.Author.Needs.{needs}
 use Prim.Native.Nat.{_-_, _≤_}
 use mathlib.Core.List.{_++_}
@@ -8,8 +8,8 @@ use borrow.Author.Tests.{ltb-true, ltb-false}
 use lib.ListN.{length, take, replicate, length-set}
 use native.Mathlib.Omega.{arith}
 use Rattle.debounce.proofs.Laws.{pad-on, pad-done}
-use Rattle.debounce.proofs.pad.Statement.{statement}
-use Rattle.debounce.proofs.pad.Tie as tie
+use Rattle.debounce.proofs.picture.pad.Statement.{statement}
+use Rattle.debounce.proofs.picture.pad.Tie as tie
 
 abbrev Inv-loop : tie.InvT-loop
 Inv-loop scan places₀ i₀ places i = (i ≤ length scan) × (i ≤ 128) × (length places ≡ 128) × (places ≡ take i scan ++ replicate (128 - i) 0)

@@ -1,8 +1,8 @@
--- `debounce::sizes_good` meets its contract. Assumes nothing.
+-- `debounce::verdicts::sizes_good` meets its contract. Assumes nothing.
 use borrow.Author.Tests.{le-leb, lt-leb}
 use Rattle.debounce.specs.Calls.{sizesGood}
-use Rattle.debounce.proofs.sizes_good.Statement.{statement}
-use Rattle.debounce.proofs.sizes_good.Tie as tie
+use Rattle.debounce.proofs.verdicts.sizes_good.Statement.{statement}
+use Rattle.debounce.proofs.verdicts.sizes_good.Tie as tie
 
 returns : tie.Need-returns
 unfolding sizesGood

@@ -1,4 +1,4 @@
--- `debounce::is_picture` meets its contract: where each place from n on is unused, all of them decide. Assumes nothing.
+-- `debounce::picture::is_picture` meets its contract: where each place from n on is unused, all of them decide. Assumes nothing.
 use borrow.Author.Needs.{needs}
 use mathlib.Core.Bool.{and-false}
 use mathlib.Core.Path.{_≡_, sym, _∙_}
@@ -6,8 +6,8 @@ use lib.ListN.{length, take}
 use Rattle.lists.specs.Lists.{every}
 use Rattle.debounce.specs.Picture.{binary, isPicture}
 use Rattle.debounce.proofs.Laws.{unused-past, picture-binary}
-use Rattle.debounce.proofs.is_picture.Statement.{statement}
-use Rattle.debounce.proofs.is_picture.Tie as tie
+use Rattle.debounce.proofs.picture.is_picture.Statement.{statement}
+use Rattle.debounce.proofs.picture.is_picture.Tie as tie
 
 returns : tie.Need-returns
 returns c =

@@ -1,4 +1,4 @@
--- `debounce::are_alike` meets its contract: whether the places so far are equal, and those that are left, decide. Assumes nothing.
+-- `debounce::picture::are_alike` meets its contract: whether the places so far are equal, and those that are left, decide. Assumes nothing.
 use borrow.Author.Needs.{needs}
 use Prim.Native.Nat.{_-_}
 use mathlib.Core.Bool.{_&&_}
@@ -8,8 +8,8 @@ use lib.ListN.{length, drop}
 use native.Mathlib.Omega.{arith}
 use Rattle.lists.specs.Lists.{alike}
 use Rattle.lists.proofs.Laws.{alike-on, alike-fails, alike-none, seen-fails, seen-all}
-use Rattle.debounce.proofs.are_alike.Statement.{statement}
-use Rattle.debounce.proofs.are_alike.Tie as tie
+use Rattle.debounce.proofs.picture.are_alike.Statement.{statement}
+use Rattle.debounce.proofs.picture.are_alike.Tie as tie
 
 abbrev Inv-loop : tie.InvT-loop
 Inv-loop a b good₀ i₀ good i = alike a b ≡ good && alike (drop i a) (drop i b)

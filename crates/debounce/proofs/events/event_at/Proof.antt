@@ -1,11 +1,11 @@
--- `debounce::event_at` meets its contract: row and column are below 128, and so bytes. Assumes nothing.
+-- `debounce::events::event_at` meets its contract: row and column are below 128, and so bytes. Assumes nothing.
 use borrow.Author.Needs.{needs}
 use borrow.Author.Tests.{eq-eqb, ne-eqb}
 use native.Mathlib.Nat.{div-le-self, mod-le}
 use native.Mathlib.Omega.{arith}
 use Rattle.debounce.specs.Events.{eventAt}
-use Rattle.debounce.proofs.event_at.Statement.{statement}
-use Rattle.debounce.proofs.event_at.Tie as tie
+use Rattle.debounce.proofs.events.event_at.Statement.{statement}
+use Rattle.debounce.proofs.events.event_at.Tie as tie
 
 cast-i : tie.Need-cast-i
 cast-i c = omega (arith, div-le-self (c .args .place) (c .args .columns))

@@ -1,4 +1,4 @@
--- `debounce::tell` meets its contract. The loop's invariant: the bytes so far, with those of the events from this place on, are the bytes of all events, and past them the buffer is as it was. Assumes nothing.
+-- `debounce::events::tell` meets its contract. The loop's invariant: the bytes so far, with those of the events from this place on, are the bytes of all events, and past them the buffer is as it was. Assumes nothing.
 use borrow.Author.Needs.{needs}
 use Prim.Native.Nat.{_+_, _*_, _-_, _≤_}
 use mathlib.Core.List.{List, _++_}
@@ -10,8 +10,8 @@ use Rattle.lists.proofs.Laws.{laid-is}
 use Rattle.event.specs.declared.Event.{Event}
 use Rattle.debounce.specs.Events.{changes, written}
 use Rattle.debounce.proofs.EventLaws.{changes-none, length-written, empty-written, tell-turn}
-use Rattle.debounce.proofs.tell.Statement.{statement}
-use Rattle.debounce.proofs.tell.Tie as tie
+use Rattle.debounce.proofs.events.tell.Statement.{statement}
+use Rattle.debounce.proofs.events.tell.Tie as tie
 
 abbrev Inv-loop : tie.InvT-loop
 Inv-loop n columns out₀ before after count₀ place₀ out count place = (place ≤ n) × (count ≤ place) × (length out ≡ length out₀)

@@ -1,10 +1,10 @@
--- `debounce::put_event` meets its contract. Assumes nothing.
+-- `debounce::events::put_event` meets its contract. Assumes nothing.
 use borrow.Author.Needs.{needs}
 use lib.ListN.{length-set}
 use native.Mathlib.Omega.{arith}
 use Rattle.debounce.proofs.Laws.{three-set}
-use Rattle.debounce.proofs.put_event.Statement.{statement}
-use Rattle.debounce.proofs.put_event.Tie as tie
+use Rattle.debounce.proofs.events.put_event.Statement.{statement}
+use Rattle.debounce.proofs.events.put_event.Tie as tie
 
 slice-write-out-2 : tie.Need-slice-write-out-2
 slice-write-out-2 c = simp length-set (omega arith)

@@ -1,10 +1,10 @@
--- `debounce::tell_step` meets its contract: no change, no events; else those between the two pictures. Assumes nothing.
+-- `debounce::events::tell_step` meets its contract: no change, no events; else those between the two pictures. Assumes nothing.
 use borrow.Author.Needs.{needs}
 use mathlib.Core.Path.{refl}
 use borrow.Author.Tests.{not-true, not-false}
 use Rattle.debounce.specs.Events.{written}
-use Rattle.debounce.proofs.tell_step.Statement.{statement}
-use Rattle.debounce.proofs.tell_step.Tie as tie
+use Rattle.debounce.proofs.events.tell_step.Statement.{statement}
+use Rattle.debounce.proofs.events.tell_step.Tie as tie
 
 returns : tie.Need-returns
 unfolding written

@@ -1,9 +1,9 @@
--- `debounce::bounce_good` meets its contract. Assumes nothing.
+-- `debounce::verdicts::bounce_good` meets its contract. Assumes nothing.
 use borrow.Author.Needs.{needs}
 use mathlib.Core.Path.{sym, _∙_}
 use Rattle.debounce.specs.Calls.{bounceGood}
-use Rattle.debounce.proofs.bounce_good.Statement.{statement}
-use Rattle.debounce.proofs.bounce_good.Tie as tie
+use Rattle.debounce.proofs.verdicts.bounce_good.Statement.{statement}
+use Rattle.debounce.proofs.verdicts.bounce_good.Tie as tie
 
 returns : tie.Need-returns
 unfolding bounceGood

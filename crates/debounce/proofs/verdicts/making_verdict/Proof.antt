@@ -1,4 +1,4 @@
--- `debounce::making_verdict` meets its contract. Assumes nothing.
+-- `debounce::verdicts::making_verdict` meets its contract. Assumes nothing.
 use borrow.Author.Needs.{needs}
 use mathlib.Core.Bool.{true}
 use mathlib.Core.Path.{_≡_, sym, _∙_}
@@ -7,12 +7,12 @@ use native.Mathlib.Omega.{arith}
 use Rattle.refusal.specs.Verdict.{rule}
 use Rattle.debounce.specs.Calls.{bounceGood, makingVerdict}
 use Rattle.debounce.proofs.States.{sized}
-use Rattle.debounce.proofs.bounce_good.Reads as bounce-good
-use Rattle.debounce.proofs.is_scan.Reads as is-scan
-use Rattle.debounce.proofs.making_verdict.Reads as reads
-use Rattle.debounce.proofs.making_verdict.Lts as lts
-use Rattle.debounce.proofs.making_verdict.Statement.{statement}
-use Rattle.debounce.proofs.making_verdict.Tie as tie
+use Rattle.debounce.proofs.verdicts.bounce_good.Reads as bounce-good
+use Rattle.debounce.proofs.picture.is_scan.Reads as is-scan
+use Rattle.debounce.proofs.verdicts.making_verdict.Reads as reads
+use Rattle.debounce.proofs.verdicts.making_verdict.Lts as lts
+use Rattle.debounce.proofs.verdicts.making_verdict.Statement.{statement}
+use Rattle.debounce.proofs.verdicts.making_verdict.Tie as tie
 
 -- behind the first test
 good : (c : lts.Else1 (bounce-good.Asked, bounce-good.Learnt, is-scan.Asked, is-scan.Learnt) reads.Pre reads.Post)
