@@ -14,7 +14,7 @@ use Rattle.debounce.specs.Picture.{padded, binary, unused, isPicture, is
 use Rattle.debounce.specs.Step as filter
 use Rattle.refusal.specs.Verdict.{rule}
 use Rattle.refusal.specs.declared.Refusal.the-variants.{Scan, Bounce}
-use Rattle.debounce.specs.Calls.{switches, sizesGood, bounceGood, stateGood, makingVerdict, ifFine, started, refusedMaking, newReply, picturesOf, withPictures, stepOf, scanned}
+use Rattle.debounce.specs.Calls.{switches, sizesGood, bounceGood, stateGood, makingVerdict, ifFine, started, refusedMaking, newReply, picturesOf, withPictures, scanned}
 use Rattle.debounce.specs.declared.Debouncer.{Debouncer}
 use Rattle.refusal.specs.declared.Verdict.the-variants.{Fine}
 use Rattle.debounce.proofs.States.{Legal, legal, scan-long}

@@ -7,7 +7,7 @@ use Rattle.refusal.specs.Said.{Said, said}
 use Rattle.refusal.proofs.Said.{answerBack, refused-back, said-one}
 use Rattle.refusal.specs.declared.Verdict.{Verdict}
 use Rattle.refusal.specs.declared.Verdict.the-variants.{Fine, Refused}
-use Rattle.debounce.specs.Calls.{madeSaid, gotSaid, changeSaid, countSaid, beside, updatedSaid, Reply, handed}
+use Rattle.debounce.specs.Calls.{madeSaid, gotSaid, changeSaid, countSaid, updatedSaid, Reply, handed}
 use Rattle.debounce.specs.declared.Made.{Made}
 use Rattle.debounce.specs.declared.Got.{Got}
 use Rattle.debounce.specs.declared.Update.{Update}

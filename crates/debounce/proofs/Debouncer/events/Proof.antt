@@ -1,6 +1,6 @@
 -- `debounce::Debouncer::events` meets its contract, in each case of the verdict. Assumes nothing.
 use borrow.Author.Needs.{needs}
-use mathlib.Core.Path.{_≡_, refl, sym, _∙_}
+use mathlib.Core.Path.{_≡_, sym, _∙_}
 use lib.ListN.{length}
 use Rattle.debounce.specs.Picture.{padded}
 use Rattle.debounce.specs.Calls.{eventsVerdict, ifFine, eventsOf}

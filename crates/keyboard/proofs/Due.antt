@@ -1,25 +1,40 @@
 -- What a user wants of the idle clock: at rate n, from the start of a period and with no change and no Set_Idle, a report is due at
--- every 4n-th clock call and at no other; at rate 0 at none. Assumes nothing.
+-- every 4n-th clock call and at no other; at rate 0 at none: `specs/Idle.antt`. Assumes nothing.
 use Prim.Native.Nat.{ℕ, zero, suc, _+_, _*_, _%_, _<_, _≤_}
-use mathlib.Core.Bool.{Bool, true, false}
+use mathlib.Core.Bool.{Bool, true, false, cond}
 use mathlib.Core.Path.{_≡_, refl, sym, ap, _∙_}
 use native.Mathlib.Nat.{zero-mod, mod-lt, suc-mod, mod-self, mod-eq-of-lt, min-eq-left}
 use native.Mathlib.Numerals.{add-one}
 use native.Mathlib.Omega.{arith}
 use borrow.Author.Tests.{ne-eqb, le-leb, lt-leb, leb-true, leb-false}
 use lib.Dec.{eqb, leb}
-use Rattle.keyboard.specs.Keyboard.{withIdle, clocked}
+use Rattle.keyboard.specs.Idle.{withIdle, counted, isDue, clocked, clocks, NeverDue, DueAt}
 use Rattle.keyboard.specs.declared.Keyboard.{Keyboard}
+use Rattle.keyboard.specs.declared.Clocked.{Clocked}
 
--- so many clock calls, one after the other
-unfoldable pub clocks : ℕ → Keyboard → Keyboard
-clocks zero k = k
-clocks (suc j) k = clocked (clocks j k) .keyboard
-
--- at rate 0
-pub never : (k : Keyboard) → k .idle ≡ 0 → clocked k .due ≡ false
+-- at rate 0: a call leaves the rate as it is, and is not due
+rate-kept : (k : Keyboard) → clocked k .keyboard .idle ≡ k .idle
 unfolding clocked
-never k e = rw e
+rate-kept k = go (isDue k)
+  where
+    go : (due : Bool)
+        → cond {A = Clocked} due (record { due = true; keyboard = withIdle k (k .idle) 0 }) (record { due = false; keyboard = withIdle k (k .idle) (counted k) }) .keyboard .idle
+        ≡ k .idle
+    go true = refl
+    go false = refl
+
+rate-after : (j : ℕ) (k : Keyboard) → clocks j k .idle ≡ k .idle
+unfolding clocks
+rate-after zero k = refl
+rate-after (suc j) k = rate-kept (clocks j k) ∙ rate-after j k
+
+none-due : (k : Keyboard) → k .idle ≡ 0 → clocked k .due ≡ false
+unfolding clocked
+none-due k e = rw e
+
+pub never : NeverDue
+unfolding NeverDue
+never k e j = none-due (clocks j k) (rate-after j k ∙ e)
 
 -- one call c calls into a period of 4n: the count goes on, or the report is due and a period starts
 module _ (k : Keyboard) (some : 1 ≤ k .idle) (few : k .idle ≤ 255) (c : ℕ) where
@@ -70,8 +85,8 @@ unfolding clocks
 counts k some few start zero = rw (zero-mod (4 * k .idle)) (ap (λ (n : ℕ). withIdle k (k .idle) n) start)
 counts k some few start (suc j) = ap (λ (at : Keyboard). clocked at .keyboard) (counts k some few start j) ∙ turn k some few j .1
 
--- the (j + 1)-th call is due exactly if j + 1 is a multiple of 4n
-pub due-at : (k : Keyboard) → 1 ≤ k .idle → k .idle ≤ 255 → k .count ≡ 0 → (j : ℕ) → clocked (clocks j k) .due ≡ eqb ((j + 1) % (4 * k .idle)) 0
+pub due-at : DueAt
+unfolding DueAt
 due-at k some few start j =
     ap (λ (at : Keyboard). clocked at .due) (counts k some few start j) ∙ turn k some few j .0
     ∙ ap (λ (n : ℕ). eqb (n % (4 * k .idle)) 0) (sym (add-one j))

@@ -1,8 +1,8 @@
--- `keyboard::is_due` meets its contract. Assumes nothing.
+-- `keyboard::idle::is_due` meets its contract. Assumes nothing.
 use borrow.Author.Needs.{needs}
 use borrow.Author.Tests.{eq-eqb, ne-eqb}
-use Rattle.keyboard.proofs.is_due.Statement.{statement}
-use Rattle.keyboard.proofs.is_due.Tie as tie
+use Rattle.keyboard.proofs.idle.is_due.Statement.{statement}
+use Rattle.keyboard.proofs.idle.is_due.Tie as tie
 
 returns : tie.Need-returns
 returns c = rw (ne-eqb _ _ (c .if1 .taken))
