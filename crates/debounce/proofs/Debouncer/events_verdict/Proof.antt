@@ -3,8 +3,9 @@ use borrow.Author.Needs.{needs}
 use mathlib.Core.Path.{_≡_, sym, _∙_}
 use borrow.Author.Tests.{le-leb, lt-leb}
 use native.Mathlib.Omega.{arith}
-use Rattle.debounce.specs.Calls.{rule, updateVerdict}
-use Rattle.debounce.specs.declared.Verdict.the-variants.{Fine}
+use Rattle.refusal.specs.Verdict.{rule}
+use Rattle.debounce.specs.Calls.{updateVerdict}
+use Rattle.refusal.specs.declared.Verdict.the-variants.{Fine}
 use Rattle.debounce.proofs.States.{update-fine, events-room, events-refused}
 use Rattle.debounce.proofs.Debouncer.update_verdict.Reads as update-verdict
 use Rattle.debounce.proofs.Debouncer.events_verdict.Reads as reads
@@ -34,7 +35,7 @@ unfolding rule
 returns-2 c = sym (events-room _ _ _ (fine (c .before)) ∙ rw (le-leb _ _ (c .if1 .left)))
 
 returns-3 : tie.Need-returns-3
-returns-3 c = sym (events-refused _ _ _ _ (sym (c .before .before .before .update-verdict .ensures) ∙ c .before .verdict .given .1))
+returns-3 c = sym (events-refused _ _ _ _ _ (sym (c .before .before .before .update-verdict .ensures) ∙ c .before .verdict .given .1))
 
 pub events-verdict-spec : {M : Type 1} → statement M
 events-verdict-spec =

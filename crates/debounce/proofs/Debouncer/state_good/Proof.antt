@@ -9,8 +9,8 @@ use Rattle.debounce.specs.Picture.{isPicture}
 use Rattle.debounce.specs.Calls.{switches, bounceGood, stateGood}
 use Rattle.debounce.specs.declared.Debouncer.{Debouncer}
 use Rattle.debounce.proofs.States.{sized}
-use Rattle.debounce.proofs.bounce_good.Reads as bounce-good
-use Rattle.debounce.proofs.is_picture.Reads as is-picture
+use Rattle.debounce.proofs.verdicts.bounce_good.Reads as bounce-good
+use Rattle.debounce.proofs.picture.is_picture.Reads as is-picture
 use Rattle.debounce.proofs.Debouncer.state_good.Reads as reads
 use Rattle.debounce.proofs.Debouncer.state_good.Lts as lts
 use Rattle.debounce.proofs.Debouncer.state_good.Statement.{statement}

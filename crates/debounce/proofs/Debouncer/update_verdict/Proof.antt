@@ -4,9 +4,10 @@ use mathlib.Core.Bool.{true}
 use mathlib.Core.Path.{_≡_, sym, _∙_}
 use borrow.Author.Tests.{not-true, not-false}
 use native.Mathlib.Omega.{arith}
-use Rattle.debounce.specs.Calls.{stateGood, rule, updateVerdict}
+use Rattle.refusal.specs.Verdict.{rule}
+use Rattle.debounce.specs.Calls.{stateGood, updateVerdict}
 use Rattle.debounce.proofs.States.{legal-sized}
-use Rattle.debounce.proofs.is_scan.Reads as is-scan
+use Rattle.debounce.proofs.picture.is_scan.Reads as is-scan
 use Rattle.debounce.proofs.Debouncer.state_good.Reads as state-good
 use Rattle.debounce.proofs.Debouncer.update_verdict.Reads as reads
 use Rattle.debounce.proofs.Debouncer.update_verdict.Lts as lts
