@@ -215,22 +215,22 @@ module _ (img : List ℕ) (c : Coord) where
   push-layer {t} {u} {a} {b} v h d = subst (λ (x : State). Effected img c t u a b (push x)) (layer-state c v h) d
 
   -- what a call has come to once an action has run comes by the action's step
-  pub did-effect : (start end : Progress) (effect last : Effect) (a b : List ℕ) {f : Model → Done} → Tidy (start .active) → effect ≡ effectOf start → Effected img c effect last a b f
-      → Grown (start .active) last b c end → (q : List Queued) → Did img start end q (f (modelOf img (start .active) q))
-  did-effect start end effect last a b {f} t e d g q =
-      let s = statesIn (start .active) in
-      let h : length s ≡ effect .held = rw (length-map) (held-length (start .active) t ∙ sym (ap (λ (x : Effect). x .held) e)) in
-      let first : effectIn img c effect a s q ≡ modelOf img (start .active) q = ap (λ (x : Effect). effectIn img c x a s q) e ∙ model-of q refl (append-nil s) refl in
+  pub did-effect : (active : Active) (notes : Notes) (end : Progress) (effect last : Effect) (a b : List ℕ) {f : Model → Done} → Tidy active → effect ≡ effectOf active notes → Effected img c effect last a b f
+      → Grown active last b c end → (q : List Queued) → Did img notes end q (f (modelOf img active q))
+  did-effect active notes end effect last a b {f} t e d g q =
+      let s = statesIn active in
+      let h : length s ≡ effect .held = rw (length-map) (held-length active t ∙ sym (ap (λ (x : Effect). x .held) e)) in
+      let first : effectIn img c effect a s q ≡ modelOf img active q = ap (λ (x : Effect). effectIn img c x a s q) e ∙ model-of q refl (append-nil s) refl in
       record {
         tidy = g .tidy;
         is = model-of q (g .base) (g .states) (ap (waitingOf img) (g .waiting)) ∙ d .is s h q ∙ ap (λ (m : Model). f m .layout) first;
-        notes = g .notes ∙ d .notes s h q ∙ ap (λ (m : Model). noted (effect .notes) (f m)) first ∙ ap (λ (x : Effect). noted (x .notes) (f (modelOf img (start .active) q))) e;
+        notes = g .notes ∙ d .notes s h q ∙ ap (λ (m : Model). noted (effect .notes) (f m)) first ∙ ap (λ (x : Effect). noted (x .notes) (f (modelOf img active q))) e;
       }
 
 -- an action begins, with room for all that it may add, and what it added may be taken
-pub effect-starts : (start : Progress) (effect : Effect) (a : List ℕ) → Tidy (start .active) → effect ≡ effectOf start → length a ≡ 64 → Roomy effect a
-effect-starts start effect a t e l = record { few = omega (arith, t .few, ap (λ (x : Effect). x .held) e, ap (λ (x : Effect). x .added) e); long = l }
+pub effect-starts : (active : Active) (notes : Notes) (effect : Effect) (a : List ℕ) → Tidy active → effect ≡ effectOf active notes → length a ≡ 64 → Roomy effect a
+effect-starts active notes effect a t e l = record { few = omega (arith, t .few, ap (λ (x : Effect). x .held) e, ap (λ (x : Effect). x .added) e); long = l }
 
-pub effect-ends : (img : List ℕ) (c : Coord) (start : Progress) (effect last : Effect) (a b : List ℕ) {f : Model → Done} → Tidy (start .active) → effect ≡ effectOf start → Effected img c effect last a b f
-    → Tidy (start .active) × Roomy last b × (last .held ≡ start .active .len)
-effect-ends img c start effect last a b t e d = (t, d .roomy, d .held ∙ ap (λ (x : Effect). x .held) e)
+pub effect-ends : (img : List ℕ) (c : Coord) (active : Active) (notes : Notes) (effect last : Effect) (a b : List ℕ) {f : Model → Done} → Tidy active → effect ≡ effectOf active notes → Effected img c effect last a b f
+    → Tidy active × Roomy last b × (last .held ≡ active .len)
+effect-ends img c active notes effect last a b t e d = (t, d .roomy, d .held ∙ ap (λ (x : Effect). x .held) e)

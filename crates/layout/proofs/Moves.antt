@@ -12,14 +12,15 @@ use borrow.Author.Tests.{lt-ltb, le-ltb}
 use Rattle.event.specs.declared.Event.{Event}
 use Rattle.event.specs.declared.Coord.{Coord}
 use Rattle.image.specs.Words.{layersOf}
-use Rattle.image.specs.Tree.{Action, tree}
+use Rattle.image.specs.Tree.{Action}
 use Rattle.image.specs.Table.{Table, tableOf}
 use Rattle.layout.specs.Model.{Queued, Model, Waiting, Idle, Waits, Acted, Done, ageOf, still, marked, after, withWaiting, withQueue}
-use Rattle.layout.specs.Actions.{find, decided}
+use Rattle.layout.specs.Actions.{decided}
 use Rattle.layout.specs.Steps.{act, into, intoHold, intoTap, releases, released, overflow, appended, entered, event, older, tickWait, ticked, tick}
-use Rattle.layout.specs.Packed.{listIn, holdOf, tapOf, waitingOf, waitsAt, modelOf, unpack}
+use Rattle.layout.specs.Packed.{listIn, waitingOf, waitsAt, modelOf, unpack}
 use Rattle.layout.specs.Notes.{noNotes, noteActed, noted, notedMarks}
-use Rattle.layout.specs.Inside.{Tidy, Lined, Moves, Did, Steps, Went, becomes, waitedOne}
+use Rattle.layout.specs.Inside.{Tidy, Lined, Moves, Did, Steps, Went, settingOf, becomes, waitedOne}
+use Rattle.layout.specs.Effects.{effectOf, Settled, Grown}
 use Rattle.layout.specs.declared.active.Active.{Active}
 use Rattle.layout.specs.declared.active.WaitingState.{WaitingState}
 use Rattle.layout.specs.declared.active.Waiting.{Waiting as WaitingIn}
@@ -27,44 +28,44 @@ use Rattle.layout.specs.declared.active.Waiting.the-variants as waiting
 use Rattle.layout.specs.declared.notes.Way.{Way}
 use Rattle.layout.specs.declared.notes.Way.the-variants.{Hold}
 use Rattle.layout.specs.declared.notes.Notes.{Notes}
-use Rattle.layout.specs.declared.queue.Found.{Found}
 use Rattle.layout.specs.declared.queue.Queue.{Queue}
+use Rattle.layout.specs.declared.action.Setting.{Setting}
+use Rattle.layout.specs.declared.effect.Effect.{Effect}
 use Rattle.layout.specs.declared.effect.Progress.{Progress}
 use Rattle.layout.specs.declared.layout.Layout.{Layout}
 use Rattle.layout.proofs.Noted.{noted-append}
+use Rattle.layout.proofs.Effects.{did-effect}
 
 module _ (img : List ℕ) where
-  pub did-nothing : (p : Progress) (q : List Queued) → Tidy (p .active) → Did img p p q (still (modelOf img (p .active) q))
+  pub did-nothing : (active : Active) (notes : Notes) (q : List Queued) → Tidy active → Did img notes (record { active = active; notes = notes }) q (still (modelOf img active q))
   unfolding notedMarks
-  did-nothing p q t = record { tidy = t; is = refl; notes = refl }
+  did-nothing active notes q t = record { tidy = t; is = refl; notes = refl }
 
-  pub did-moves : (p : Progress) (end : Active) (q : List Queued) {move : Model → Model} → Moves img (p .active) end move
-      → Did img p (record { active = end; notes = p .notes }) q (still (move (modelOf img (p .active) q)))
+  pub did-moves : (active end : Active) (notes : Notes) (q : List Queued) {move : Model → Model} → Moves img active end move
+      → Did img notes (record { active = end; notes = notes }) q (still (move (modelOf img active q)))
   unfolding notedMarks
-  did-moves p end q m = record { tidy = m .tidy; is = m .is q; notes = refl }
+  did-moves active end notes q m = record { tidy = m .tidy; is = m .is q; notes = refl }
 
   -- an event is acted on, and that is noted first
-  pub did-acted : (start end : Progress) (notes : Notes) (q : List Queued) (e : Event) (done : Done) → notes ≡ noteActed (start .notes) e
-      → Did img (record { active = start .active; notes = notes }) end q done → Did img start end q (marked (Acted e) done)
+  pub did-acted : (notes noting : Notes) (end : Progress) (q : List Queued) (e : Event) (done : Done) → noting ≡ noteActed notes e → Did img noting end q done → Did img notes end q (marked (Acted e) done)
   unfolding notedMarks
-  did-acted start end notes q e done en d = record { tidy = d .tidy; is = d .is; notes = d .notes ∙ ap (λ (n : Notes). noted n done) en }
+  did-acted notes noting end q e done en d = record { tidy = d .tidy; is = d .is; notes = d .notes ∙ ap (λ (n : Notes). noted n done) en }
 
-  pub did-as : {a b : Progress} {q : List Queued} {x y : Done} → Did img a b q x → x ≡ y → Did img a b q y
-  did-as {a} {b} {q} d e = subst (Did img a b q) e d
+  pub did-as : {notes : Notes} {end : Progress} {q : List Queued} {x y : Done} → Did img notes end q x → x ≡ y → Did img notes end q y
+  did-as {notes} {end} {q} d e = subst (Did img notes end q) e d
 
-  pub did-then : {a b c : Progress} {q : List Queued} {x : Done} (g : Model → Done) → Did img a b q x → Did img b c q (g (modelOf img (b .active) q)) → Did img a c q (after x (g (x .layout)))
-  did-then {a} {b} {c} {q} {x} g d e =
-      let r : Did img b c q (g (x .layout)) = subst (λ (m : Model). Did img b c q (g m)) (d .is) e in
+  pub did-then : {notes : Notes} {b c : Progress} {q : List Queued} {x : Done} (g : Model → Done) → Did img notes b q x → Did img (b .notes) c q (g (modelOf img (b .active) q)) → Did img notes c q (after x (g (x .layout)))
+  did-then {notes} {b} {c} {q} {x} g d e =
+      let r : Did img (b .notes) c q (g (x .layout)) = subst (λ (m : Model). Did img (b .notes) c q (g m)) (d .is) e in
       record {
         tidy = r .tidy;
         is = r .is;
-        notes = r .notes ∙ ap (λ (n : Notes). noted n (g (x .layout))) (d .notes) ∙ sym (noted-append (a .notes) (x .marks) (g (x .layout) .marks));
+        notes = r .notes ∙ ap (λ (n : Notes). noted n (g (x .layout))) (d .notes) ∙ sym (noted-append notes (x .marks) (g (x .layout) .marks));
       }
 
   -- a call that began with no notes, and a queue that holds the list l
   pub went-did : (lay : Layout) (none : Notes) (end : Progress) (queue : Queue) (l : List Queued) (f : Model → Done) → none ≡ noNotes → Lined queue → listIn queue ≡ l
-      → Did img (record { active = lay .active; notes = none }) end (listIn queue) (f (modelOf img (lay .active) (listIn queue)))
-      → Went img lay end queue (f (withQueue l (unpack img lay)))
+      → Steps img (lay .active) none end queue f → Went img lay end queue (f (withQueue l (unpack img lay)))
   went-did lay none end queue l f en t e d =
       subst (λ (x : List Queued). Went img lay end queue (f (modelOf img (lay .active) x))) e
       (record { tidy = d .tidy; lined = t; is = d .is; notes = d .notes ∙ ap (λ (n : Notes). noted n (f (modelOf img (lay .active) (listIn queue)))) en })
@@ -126,49 +127,41 @@ module _ (T : Table) (l : Model) where
   wait-up (suc k) h = absurd (omega arith)
 
 -- nothing waits, so nothing becomes hold or tap; and what waits is decided
-module _ (img : List ℕ) (start : Progress) (q : List Queued) (way : Way) where
-  pub into-none : Tidy (start .active) → start .active .waiting ≡ waiting.Nothing → Did img start start q (into way (tableOf img) (waitingOf img (start .active .waiting)) (modelOf img (start .active) q))
+module _ (img : List ℕ) (active : Active) (notes : Notes) (way : Way) where
+  pub into-none : (q : List Queued) → Tidy active → active .waiting ≡ waiting.Nothing
+      → Did img notes (record { active = active; notes = notes }) q (into way (tableOf img) (waitingOf img (active .waiting)) (modelOf img active q))
   unfolding into
-  into-none t e = did-as img (did-nothing img start q t) (sym (ap (λ (w : WaitingIn). into way (tableOf img) (waitingOf img w) (modelOf img (start .active) q)) e))
+  into-none q t e = did-as img (did-nothing img active notes q t) (sym (ap (λ (w : WaitingIn). into way (tableOf img) (waitingOf img w) (modelOf img active q)) e))
 
-  pub into-on : (end : Progress) (w : WaitingState) → waitingOf img (start .active .waiting) ≡ waitingOf img (waiting.On w)
-      → Did img start end q (becomes img way w (modelOf img (start .active) q))
-      → Did img start end q (into way (tableOf img) (waitingOf img (start .active .waiting)) (modelOf img (start .active) q))
-  into-on end w e d = did-as img d (sym (ap (λ (x : Waiting). into way (tableOf img) x (modelOf img (start .active) q)) e))
+  pub into-on : (q : List Queued) (end : Progress) (w : WaitingState) → active .waiting ≡ waiting.On w → Did img notes end q (becomes img way w (modelOf img active q))
+      → Did img notes end q (into way (tableOf img) (waitingOf img (active .waiting)) (modelOf img active q))
+  into-on q end w e d = did-as img d (sym (ap (λ (x : WaitingIn). into way (tableOf img) (waitingOf img x) (modelOf img active q)) e))
 
-  -- by the release that was found
-  pub becomes-so : (end : Progress) (w : WaitingState) (layers : ℕ) (found : Found) → found ≡ find (w .coord) q → layers ≡ layersOf img
-      → Did img start end q (decided way (holdOf (tree img (w .number))) (tapOf (tree img (w .number))) layers (w .coord) found (modelOf img (start .active) q))
-      → Did img start end q (becomes img way w (modelOf img (start .active) q))
+  -- the HoldTap that waits is decided in its setting, and what that left is taken
+  pub becomes-so : (layers : ℕ) (queue : Queue) (w : WaitingState) (setting : Setting) (effect last : Effect) (a b : List ℕ) (end : Progress) → Tidy active → layers ≡ layersOf img
+      → setting ≡ settingOf layers queue (w .coord) → effect ≡ effectOf active notes → Settled img (w .number) setting way effect last a b → Grown active last b (w .coord) end
+      → Steps img active notes end queue (becomes img way w)
   unfolding into
-  becomes-so end w layers found e f d = did-as img d (rw (e, f))
+  becomes-so layers queue w setting effect last a b end t el es ee d g =
+      let there : Settled img (w .number) (settingOf layers queue (w .coord)) way effect last a b = subst (λ (s : Setting). Settled img (w .number) s way effect last a b) es d in
+      did-as img (did-effect img (w .coord) active notes end effect last a b t ee there g (listIn queue)) (rw el)
 
--- a tick where something waits: it has a tick less, and becomes hold where none is left
-module _ (img : List ℕ) (start : Progress) (next : Active) (q : List Queued) (w : WaitingState) (k : ℕ) (ek : k ≡ w .left - 1)
-    (m : Moves img (start .active) next (withWaiting (waitingOf img (waitsAt (w .coord) k (w .number))))) where
-  abbrev fewer : Waiting
-  fewer = waitingOf img (waitsAt (w .coord) (w .left - 1) (w .number))
+-- a tick where something waits: it has a tick less, or becomes hold where none is left
+module _ (img : List ℕ) (active : Active) (notes : Notes) (queue : Queue) (w : WaitingState) (k : ℕ) (ek : k ≡ w .left - 1) where
+  pub did-waiting : (next : Active) → Moves img active next (withWaiting (waitingOf img (waitsAt (w .coord) k (w .number)))) → 0 < k
+      → Steps img active notes (record { active = next; notes = notes }) queue (waitedOne img w)
+  did-waiting next m h =
+      let fewer = subst (λ (x : ℕ). Moves img active next (withWaiting (waitingOf img (waitsAt (w .coord) x (w .number))))) ek m in
+      did-as img (did-moves img active next notes (listIn queue) fewer) (sym (wait-on (tableOf img) _ (w .left - 1) (omega arith)))
 
-  abbrev then : Progress
-  then = record { active = next; notes = start .notes }
-
-  did-fewer : Did img start then q (still (withWaiting fewer (modelOf img (start .active) q)))
-  did-fewer = did-moves img start next q (subst (λ (x : ℕ). Moves img (start .active) next (withWaiting (waitingOf img (waitsAt (w .coord) x (w .number))))) ek m)
-
-  pub did-waiting : 0 < k → Did img start then q (waitedOne img w (modelOf img (start .active) q))
-  did-waiting h = did-as img did-fewer (sym (wait-on (tableOf img) _ (w .left - 1) (omega arith)))
-
-  pub did-up : (end : Progress) → k ≤ 0 → Did img then end q (becomes img Hold (record { coord = w .coord; left = k; number = w .number }) (modelOf img next q))
-      → Did img start end q (waitedOne img w (modelOf img (start .active) q))
-  did-up end h up =
-      let now : waitingOf img (next .waiting) ≡ waitingOf img (waitsAt (w .coord) k (w .number)) = ap (λ (l : Model). l .waiting) (m .is q) in
-      did-as img
-      (did-then img (λ (l : Model). into Hold (tableOf img) (l .waiting) l) did-fewer (into-on img then q Hold end (record { coord = w .coord; left = k; number = w .number }) now up))
-      (sym (wait-up (tableOf img) _ (w .left - 1) (omega arith)))
+  -- what waits is gone once it is decided, so that how many ticks it had left is all the same
+  pub did-up : (end : Progress) → k ≤ 0 → Steps img active notes end queue (becomes img Hold w) → Steps img active notes end queue (waitedOne img w)
+  unfolding into decided
+  did-up end h d = did-as img d (sym (wait-up (tableOf img) _ (w .left - 1) (omega arith)))
 
 -- a tick of a whole layout, where something waits
 pub tick-goes : (img : List ℕ) (lay : Layout) (none : Notes) (w : WaitingState) (queue : Queue) (end : Progress) → none ≡ noNotes → lay .active .waiting ≡ waiting.On w → Lined queue → listIn queue ≡ older (listIn (lay .queue))
-    → Steps img (record { active = lay .active; notes = none }) end queue (waitedOne img w) → Went img lay end queue (tick (tableOf img) (unpack img lay))
+    → Steps img (lay .active) none end queue (waitedOne img w) → Went img lay end queue (tick (tableOf img) (unpack img lay))
 tick-goes img lay none w queue end en e t eq d =
     went-as img (went-did img lay none end queue (older (listIn (lay .queue))) (waitedOne img w) en t eq d)
     (sym (tick-on (tableOf img) (unpack img lay) (w .coord) (w .left) (w .number) _ _ (ap (waitingOf img) e)))
@@ -176,7 +169,7 @@ tick-goes img lay none w queue end en e t eq d =
 -- an event of a whole layout: it is entered by a step, and then what waits for its release becomes tap
 pub event-goes : (img : List ℕ) (lay : Layout) (none : Notes) (e : Event) (queue : Queue) (end : Progress) (l : List Queued) (enter : Model → Done) → none ≡ noNotes → Lined queue → listIn queue ≡ l
     → entered (tableOf img) e (listIn (lay .queue)) (unpack img lay) ≡ enter (withQueue l (unpack img lay))
-    → Steps img (record { active = lay .active; notes = none }) end queue (λ (m : Model). after (enter m) (released (tableOf img) e (enter m .layout)))
+    → Steps img (lay .active) none end queue (λ (m : Model). after (enter m) (released (tableOf img) e (enter m .layout)))
     → Went img lay end queue (event (tableOf img) e (unpack img lay))
 unfolding event
 event-goes img lay none e queue end l enter en t el eq d =

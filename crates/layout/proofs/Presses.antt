@@ -17,6 +17,7 @@ use Rattle.layout.specs.Steps.{held, current, orDefault, pressed, releas
 use Rattle.layout.specs.Packed.{statesIn, modelOf}
 use Rattle.layout.specs.Inside.{Did}
 use Rattle.layout.specs.Notes.{noteActed}
+use Rattle.layout.specs.declared.active.Active.{Active}
 use Rattle.layout.specs.declared.notes.Notes.{Notes}
 use Rattle.layout.specs.declared.effect.Progress.{Progress}
 use Rattle.layout.proofs.Moves.{did-acted}
@@ -43,22 +44,19 @@ module _ (img : List ℕ) (c : Coord) (l : Model) (k : ℕ) (cell : Cell) (e : k
   press-own n h t = sym t ∙ ap (λ (x : Cell). orDefault (treeIn img x) (treeIn img (cellAt img (l .base) (c .i) (c .j)))) (sym h) ∙ found-there
 
 -- a press is acted on: that is noted, and its action runs
-pub press-acts : (img : List ℕ) (layers : ℕ) (start end : Progress) (notes : Notes) (q : List Queued) (event : Event) (i j age : ℕ) (cell : Cell)
-    → layers ≡ layersOf img → event ≡ Press i j → notes ≡ noteActed (start .notes) event
-    → treeIn img cell ≡ pressed (tableOf img) (record { i = i; j = j }) (modelOf img (start .active) q)
-    → Did img (record { active = start .active; notes = notes }) end q (doAction (treeIn img cell) layers (record { i = i; j = j }) age (find (record { i = i; j = j }) q) (modelOf img (start .active) q))
-    → Did img start end q (act (tableOf img) event age (modelOf img (start .active) q))
-unfolding act
-press-acts img layers start end notes q event i j age cell el ee en there d =
-    let T = tableOf img in
-    subst (λ (e : Event). Did img start end q (act T e age (modelOf img (start .active) q))) (sym ee)
-    (did-acted img start end notes q (Press i j) _ (en ∙ ap (noteActed (start .notes)) ee) (rw (← there, ← el) d))
+module _ (img : List ℕ) (active : Active) (notes noting : Notes) (end : Progress) (q : List Queued) (event : Event) (i j age : ℕ) (en : noting ≡ noteActed notes event) where
+  pub press-acts : (layers : ℕ) (cell : Cell) → layers ≡ layersOf img → event ≡ Press i j → treeIn img cell ≡ pressed (tableOf img) (record { i = i; j = j }) (modelOf img active q)
+      → Did img noting end q (doAction (treeIn img cell) layers (record { i = i; j = j }) age (find (record { i = i; j = j }) q) (modelOf img active q))
+      → Did img notes end q (act (tableOf img) event age (modelOf img active q))
+  unfolding act
+  press-acts layers cell el ee there d =
+      subst (λ (e : Event). Did img notes end q (act (tableOf img) e age (modelOf img active q))) (sym ee)
+      (did-acted img notes noting end q (Press i j) _ (en ∙ ap (noteActed notes) ee) (rw (← there, ← el) d))
 
--- a release is acted on: that is noted, and the states of its key are dropped
-pub release-acts : (img : List ℕ) (start end : Progress) (notes : Notes) (q : List Queued) (event : Event) (i j age : ℕ) → event ≡ Release i j → notes ≡ noteActed (start .notes) event
-    → Did img (record { active = start .active; notes = notes }) end q (still (withStates (release (record { i = i; j = j }) (statesIn (start .active))) (modelOf img (start .active) q)))
-    → Did img start end q (act (tableOf img) event age (modelOf img (start .active) q))
-unfolding act
-release-acts img start end notes q event i j age ee en d =
-    subst (λ (e : Event). Did img start end q (act (tableOf img) e age (modelOf img (start .active) q))) (sym ee)
-    (did-acted img start end notes q (Release i j) _ (en ∙ ap (noteActed (start .notes)) ee) d)
+  -- a release: the states of its key are dropped
+  pub release-acts : event ≡ Release i j → Did img noting end q (still (withStates (release (record { i = i; j = j }) (statesIn active)) (modelOf img active q)))
+      → Did img notes end q (act (tableOf img) event age (modelOf img active q))
+  unfolding act
+  release-acts ee d =
+      subst (λ (e : Event). Did img notes end q (act (tableOf img) e age (modelOf img active q))) (sym ee)
+      (did-acted img notes noting end q (Release i j) _ (en ∙ ap (noteActed notes) ee) d)

@@ -20,6 +20,7 @@ use Rattle.layout.specs.Inside.{Tidy}
 use Rattle.layout.specs.declared.active.State.{State}
 use Rattle.layout.specs.declared.active.State.the-variants.{NormalKey, LayerModifier}
 use Rattle.layout.specs.declared.active.Active.{Active}
+use Rattle.layout.specs.declared.notes.Notes.{Notes}
 use Rattle.layout.specs.declared.notes.Way.{Way}
 use Rattle.layout.specs.declared.effect.Effect.{Effect}
 use Rattle.layout.specs.declared.effect.Progress.{Progress}
@@ -30,14 +31,14 @@ unfoldable pub stateOf : Coord → ℕ → State
 stateOf c n = cond (ltb n 65536) (NormalKey (n % 256) c) (LayerModifier (n % 65536) c)
 
 -- before an action runs
-abbrev pub effectOf : Progress → Effect
-effectOf start =
+abbrev pub effectOf : Active → Notes → Effect
+effectOf active notes =
     record {
-      «default_layer» = start .active .«default_layer»;
-      held = start .active .len;
+      «default_layer» = active .«default_layer»;
+      held = active .len;
       added = 0;
-      waiting = start .active .waiting;
-      notes = start .notes;
+      waiting = active .waiting;
+      notes = notes;
     }
 
 -- the layout that an effect stands for, where s are the states held before, and q is the queue

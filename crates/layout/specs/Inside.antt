@@ -12,6 +12,7 @@ use Rattle.image.specs.Sound.{Sound}
 use Rattle.image.specs.Table.{tableOf, treeIn}
 use Rattle.image.specs.declared.record.Cell.{Cell}
 use Rattle.layout.specs.Model.{Queued, Model, Done, withWaiting}
+use Rattle.layout.specs.Actions.{find}
 use Rattle.layout.specs.Steps.{codes, pressed, into, tickWait}
 use Rattle.layout.specs.Packed.{pad, noSlot, noStacked, statesIn, listIn, waitingOf, waitsAt, modelOf, unpack}
 use Rattle.layout.specs.Notes.{noNotes, noted}
@@ -19,8 +20,10 @@ use Rattle.layout.specs.Calls.{judgedOf}
 use Rattle.layout.specs.declared.active.Active.{Active}
 use Rattle.layout.specs.declared.active.WaitingState.{WaitingState}
 use Rattle.layout.specs.declared.active.Waiting.the-variants as waiting
+use Rattle.layout.specs.declared.notes.Notes.{Notes}
 use Rattle.layout.specs.declared.notes.Way.{Way}
 use Rattle.layout.specs.declared.queue.Queue.{Queue}
+use Rattle.layout.specs.declared.action.Setting.{Setting}
 use Rattle.layout.specs.declared.effect.Progress.{Progress}
 use Rattle.layout.specs.declared.answer.Answer.the-variants as answer
 use Rattle.layout.specs.declared.answer.Answered.{Answered}
@@ -48,14 +51,18 @@ pub record Moves (img : List ℕ) (start end : Active) (move : Model → Model) 
   pub tidy : Tidy end
   pub is : (q : List Queued) → modelOf img end q ≡ move (modelOf img start q)
 
--- one stage of a call comes from another by a step, where the queue is q
-pub record Did (img : List ℕ) (start end : Progress) (q : List Queued) (done : Done) : Type 0 where
+-- a call with these notes has come by a step to an end, where the queue is q
+pub record Did (img : List ℕ) (before : Notes) (end : Progress) (q : List Queued) (done : Done) : Type 0 where
   pub tidy : Tidy (end .active)
   pub is : modelOf img (end .active) q ≡ done .layout
-  pub notes : end .notes ≡ noted (start .notes) done
+  pub notes : end .notes ≡ noted before done
 
-abbrev pub Steps : List ℕ → Progress → Progress → Queue → (Model → Done) → Type 0
-Steps img start end queue step = Did img start end (listIn queue) (step (modelOf img (start .active) (listIn queue)))
+abbrev pub Steps : List ℕ → Active → Notes → Progress → Queue → (Model → Done) → Type 0
+Steps img active notes end queue step = Did img notes end (listIn queue) (step (modelOf img active (listIn queue)))
+
+-- where what waits is decided
+abbrev pub settingOf : ℕ → Queue → Coord → Setting
+settingOf layers queue c = record { layers = layers; coord = c; delay = 0; found = find c (listIn queue) }
 
 -- the record that a press runs
 abbrev pub PressedTo : List ℕ → Active → Coord → Cell → Type 0

@@ -35,12 +35,10 @@ pub(crate) struct Effect {
 }
 
 // Before an action runs.
-pub(crate) fn effect_of(start: Progress) -> Effect
-    ensures { λ r. ⌜ r ≡ effectOf start ⌝ }
+pub(crate) fn effect_of(active: Active, notes: Notes) -> Effect
+    ensures { λ r. ⌜ r ≡ effectOf active notes ⌝ }
 {
-    let active = start.active;
     let waiting = active.waiting;
-    let notes = start.notes;
     Effect {
         default_layer: active.default_layer,
         held: active.len,

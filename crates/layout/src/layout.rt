@@ -133,23 +133,28 @@ impl Layout {
         };
         let layers = judged.layers;
         let notes = no_notes();
-        let start = Progress { active, notes };
         let waiting = active.waiting;
         if queue.queued < Layout::QUEUE {
             let longer = append(queue, event);
             if !releases_waiting(waiting, event) {
-                return answer_of(start, longer, out);
+                return answer_of(Progress { active, notes }, longer, out);
             }
             return answer_of(
-                tap_released(image, layers, start, longer, event),
+                tap_released(image, layers, active, notes, longer, event),
                 longer,
                 out,
             );
         }
         let oldest = queue.stacked[0];
         let rest = append(shift(queue), event);
-        let next = overflow(image, layers, start, rest, oldest);
-        answer_of(tap_released(image, layers, next, rest, event), rest, out)
+        let next = overflow(image, layers, active, notes, rest, oldest);
+        let after = next.active;
+        let noted = next.notes;
+        answer_of(
+            tap_released(image, layers, after, noted, rest, event),
+            rest,
+            out,
+        )
     }
 
     // One tick of the clock, a millisecond on the panel.
@@ -168,18 +173,25 @@ impl Layout {
         };
         let layers = judged.layers;
         let notes = no_notes();
-        let start = Progress { active, notes };
         let older = age(queue);
         let waiting = active.waiting;
         let Waiting::On(w) = waiting else {
             if older.queued == 0 {
-                return answer_of(start, older, out);
+                return answer_of(Progress { active, notes }, older, out);
             }
             let oldest = older.stacked[0];
             let rest = shift(older);
-            return answer_of(unstack(image, layers, start, rest, oldest), rest, out);
+            return answer_of(
+                unstack(image, layers, active, notes, rest, oldest),
+                rest,
+                out,
+            );
         };
-        answer_of(tick_waiting(image, layers, start, older, w), older, out)
+        answer_of(
+            tick_waiting(image, layers, active, notes, older, w),
+            older,
+            out,
+        )
     }
 
     // The key codes of the layout as it stands.

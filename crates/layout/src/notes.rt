@@ -25,7 +25,7 @@ pub enum Acted {
 // The event acted on, if any, how many decisions were made, and the decisions in their order.
 pub struct Notes {
     pub acted: Acted,
-    pub made: usize,
+    pub made: u8,
     pub first: Decision,
     pub second: Decision,
 }

@@ -14,6 +14,7 @@ use super::effect::Progress;
 use super::effect::after_effect;
 use super::effect::effect_of;
 use super::layout::Layout;
+use super::notes::Notes;
 use super::notes::Way;
 use super::notes::note_acted;
 use super::queue::Queue;
@@ -33,7 +34,7 @@ ghost use Rattle.image.specs.Sound.{Sound};
 ghost use Rattle.image.specs.Table.{tableOf};
 ghost use Rattle.layout.specs.Steps.{act, releases, released as releasedOf, overflow as overflowOf};
 ghost use Rattle.layout.specs.Packed.{waitingOf, queuedOf};
-ghost use Rattle.layout.specs.Inside.{Tidy, Ready, PressedTo, Steps, becomes, waitedOne};
+ghost use Rattle.layout.specs.Inside.{Tidy, Lined, Ready, PressedTo, Steps, settingOf, waitedOne};
 
 // The record that a press runs: Trans takes the default layer's cell. Outside the table there is none.
 fn press_as_action(image: &[u8], active: Active, coord: Coord) -> Cell
@@ -55,27 +56,29 @@ fn press_as_action(image: &[u8], active: Active, coord: Coord) -> Cell
 pub(crate) fn unstack(
     image: &[u8],
     layers: usize,
-    start: Progress,
+    active: Active,
+    notes: Notes,
     queue: Queue,
     stacked: Stacked,
 ) -> Progress
-    requires { ⌜ Ready (now image) layers (start .active) queue ⌝ }
-    ensures { λ r. ⌜ Steps (now (image .entry)) start r queue (act (tableOf (now (image .entry))) (stacked .event) (stacked .since)) ⌝ }
+    requires { ⌜ Ready (now image) layers active queue ⌝ }
+    ensures { λ r. ⌜ Steps (now (image .entry)) active notes r queue (act (tableOf (now (image .entry))) (stacked .event) (stacked .since)) ⌝ }
 {
     let event = stacked.event;
     let since = stacked.since;
-    let active = start.active;
-    let notes = note_acted(start.notes, event);
+    let noted = note_acted(notes, event);
     match event {
         Event::Release(i, j) => Progress {
             active: release(active, Coord { i, j }),
-            notes,
+            notes: noted,
         },
         Event::Press(i, j) => {
             let coord = Coord { i, j };
-            let acting = Progress { active, notes };
             let Cell::Record(n) = press_as_action(image, active, coord) else {
-                return acting;
+                return Progress {
+                    active,
+                    notes: noted,
+                };
             };
             let found = find_release(queue, coord);
             let setting = Setting {
@@ -85,57 +88,57 @@ pub(crate) fn unstack(
                 found,
             };
             let mut added = [0u32; Layout::STATES];
-            let effect = do_action(image, effect_of(acting), n, setting, &mut added);
+            let effect = do_action(image, effect_of(active, noted), n, setting, &mut added);
             after_effect(active, effect, &added, coord)
         }
     }
 }
 
-// What waits becomes tap or hold: keyberon's waiting_into_tap and waiting_into_hold.
-fn waiting_into(
-    image: &[u8],
-    layers: usize,
-    start: Progress,
-    queue: Queue,
-    w: WaitingState,
-    way: Way,
-) -> Progress
-    requires { ⌜ Ready (now image) layers (start .active) queue ⌝ }
-    ensures { λ r. ⌜ Steps (now (image .entry)) start r queue (becomes (now (image .entry)) way w) ⌝ }
+// Where what waits is decided, which is keyberon's waiting_into_hold and waiting_into_tap: with no delay, and with the first
+// queued release of its key.
+fn setting_of(layers: usize, queue: Queue, coord: Coord) -> Setting
+    requires { ⌜ Lined queue ⌝ }
+    ensures { λ r. ⌜ r ≡ settingOf layers queue coord ⌝ }
 {
-    let coord = w.coord;
-    let number = w.number;
-    let active = start.active;
     let found = find_release(queue, coord);
-    let setting = Setting {
+    Setting {
         layers,
         coord,
         delay: 0,
         found,
-    };
-    let mut added = [0u32; Layout::STATES];
-    let effect = decide(image, effect_of(start), number, setting, way, &mut added);
-    after_effect(active, effect, &added, coord)
+    }
 }
 
 // The oldest event left a full queue: what waits becomes hold, then that event is acted on.
 pub(crate) fn overflow(
     image: &[u8],
     layers: usize,
-    start: Progress,
+    active: Active,
+    notes: Notes,
     queue: Queue,
     oldest: Stacked,
 ) -> Progress
-    requires { ⌜ Ready (now image) layers (start .active) queue ⌝ }
-    ensures { λ r. ⌜ Steps (now (image .entry)) start r queue (overflowOf (tableOf (now (image .entry))) (queuedOf oldest)) ⌝ }
+    requires { ⌜ Ready (now image) layers active queue ⌝ }
+    ensures { λ r. ⌜ Steps (now (image .entry)) active notes r queue (overflowOf (tableOf (now (image .entry))) (queuedOf oldest)) ⌝ }
 {
-    let active = start.active;
     let waiting = active.waiting;
     let Waiting::On(w) = waiting else {
-        return unstack(image, layers, start, queue, oldest);
+        return unstack(image, layers, active, notes, queue, oldest);
     };
-    let held = waiting_into(image, layers, start, queue, w, Way::Hold);
-    unstack(image, layers, held, queue, oldest)
+    let coord = w.coord;
+    let mut added = [0u32; Layout::STATES];
+    let effect = decide(
+        image,
+        effect_of(active, notes),
+        w.number,
+        setting_of(layers, queue, coord),
+        Way::Hold,
+        &mut added,
+    );
+    let held = after_effect(active, effect, &added, coord);
+    let after = held.active;
+    let noted = held.notes;
+    unstack(image, layers, after, noted, queue, oldest)
 }
 
 // Whether the event releases the key that waits.
@@ -153,47 +156,64 @@ pub(crate) fn releases_waiting(waiting: Waiting, event: Event) -> bool
 pub(crate) fn tap_released(
     image: &[u8],
     layers: usize,
-    start: Progress,
+    active: Active,
+    notes: Notes,
     queue: Queue,
     event: Event,
 ) -> Progress
-    requires { ⌜ Ready (now image) layers (start .active) queue ⌝ }
-    ensures { λ r. ⌜ Steps (now (image .entry)) start r queue (releasedOf (tableOf (now (image .entry))) event) ⌝ }
+    requires { ⌜ Ready (now image) layers active queue ⌝ }
+    ensures { λ r. ⌜ Steps (now (image .entry)) active notes r queue (releasedOf (tableOf (now (image .entry))) event) ⌝ }
 {
-    let active = start.active;
     let waiting = active.waiting;
     let Waiting::On(w) = waiting else {
-        return start;
+        return Progress { active, notes };
     };
     let coord = w.coord;
     if !is_release(event, coord) {
-        return start;
+        return Progress { active, notes };
     }
-    waiting_into(image, layers, start, queue, w, Way::Tap)
+    let mut added = [0u32; Layout::STATES];
+    let effect = decide(
+        image,
+        effect_of(active, notes),
+        w.number,
+        setting_of(layers, queue, coord),
+        Way::Tap,
+        &mut added,
+    );
+    after_effect(active, effect, &added, coord)
 }
 
 // A tick while a hold-tap waits: it has a tick less, and becomes hold where none is left.
 pub(crate) fn tick_waiting(
     image: &[u8],
     layers: usize,
-    start: Progress,
+    active: Active,
+    notes: Notes,
     queue: Queue,
     w: WaitingState,
 ) -> Progress
-    requires { ⌜ Ready (now image) layers (start .active) queue ⌝ }
-    ensures { λ r. ⌜ Steps (now (image .entry)) start r queue (waitedOne (now (image .entry)) w) ⌝ }
+    requires { ⌜ Ready (now image) layers active queue ⌝ }
+    ensures { λ r. ⌜ Steps (now (image .entry)) active notes r queue (waitedOne (now (image .entry)) w) ⌝ }
 {
     let left = less(w.left, 1);
     let mut waits = w;
     waits.left = left;
-    let active = start.active;
-    let notes = start.notes;
-    let next = Progress {
-        active: with_waiting(active, Waiting::On(waits)),
-        notes,
-    };
     if 0 < left {
-        return next;
+        return Progress {
+            active: with_waiting(active, Waiting::On(waits)),
+            notes,
+        };
     }
-    waiting_into(image, layers, next, queue, waits, Way::Hold)
+    let coord = w.coord;
+    let mut added = [0u32; Layout::STATES];
+    let effect = decide(
+        image,
+        effect_of(active, notes),
+        w.number,
+        setting_of(layers, queue, coord),
+        Way::Hold,
+        &mut added,
+    );
+    after_effect(active, effect, &added, coord)
 }

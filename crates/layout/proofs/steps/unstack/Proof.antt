@@ -5,7 +5,6 @@ use Rattle.image.specs.Table.{treeIn}
 use Rattle.image.specs.declared.record.Cell.the-variants.{Record, Outside}
 use Rattle.layout.specs.Actions.{doAction}
 use Rattle.layout.specs.Packed.{listIn}
-use Rattle.layout.specs.declared.effect.Progress.{Progress}
 use Rattle.layout.proofs.Effects.{effect-starts, effect-ends, did-effect}
 use Rattle.layout.proofs.Moves.{did-nothing, did-moves}
 use Rattle.layout.proofs.Presses.{press-acts, release-acts}
@@ -13,11 +12,7 @@ use Rattle.layout.proofs.steps.unstack.Statement.{statement}
 use Rattle.layout.proofs.steps.unstack.Tie as tie
 
 abbrev start : tie.After-note-acted → tie.Start
-start n = n .before .before .before
-
--- the event noted, and nothing else done yet
-abbrev acting : tie.After-note-acted → Progress
-acting n = record { active = start n .args .start .active; notes = n .note-acted .result }
+start n = n .before .before
 
 -- a release
 release-requires : tie.Need-release-requires
@@ -30,7 +25,7 @@ returns-2 c =
     let s = start n in
     let img = s .args .image .now in
     let q = listIn (s .args .queue) in
-    release-acts img (s .args .start) _ (n .note-acted .result) q (s .args .stacked .event) _ _ (s .args .stacked .since) (e .event .given .1) (n .note-acted .ensures) (did-moves img (acting n) (c .release .result) q (c .release .ensures img))
+    release-acts img (s .args .active) (s .args .notes) (n .note-acted .result) _ q (s .args .stacked .event) _ _ (s .args .stacked .since) (n .note-acted .ensures) (e .event .given .1) (did-moves img (s .args .active) (c .release .result) (n .note-acted .result) q (c .release .ensures img))
 
 -- a press, and its record
 abbrev noted : tie.After-press-as-action → tie.After-note-acted
@@ -47,9 +42,9 @@ returns c =
     let s = start n in
     let img = s .args .image .now in
     let q = listIn (s .args .queue) in
-    press-acts img (s .args .layers) (s .args .start) (acting n) (n .note-acted .result) q (s .args .stacked .event) _ _ (s .args .stacked .since) Outside (s .pre .layers) (p .before .before .event2 .given .1) (n .note-acted .ensures)
+    press-acts img (s .args .active) (s .args .notes) (n .note-acted .result) (record { active = s .args .active; notes = n .note-acted .result }) q (s .args .stacked .event) _ _ (s .args .stacked .since) (n .note-acted .ensures) (s .args .layers) Outside (s .pre .layers) (p .before .before .event2 .given .1)
     (ap (treeIn img) (sym (c .enum-told .given .1)) ∙ p .press-as-action .ensures q)
-    (did-nothing img (acting n) q (s .pre .tidy))
+    (did-nothing img (s .args .active) (n .note-acted .result) q (s .pre .tidy))
 
 -- its action runs
 abbrev pressed : tie.After-find-release → tie.After-press-as-action
@@ -63,7 +58,7 @@ do-action-requires c κs =
     let e = c .before in
     let n = noted (pressed (e .before)) in
     let s = start n in
-    (s .pre .sound, effect-starts (acting n) (e .effect-of .result) _ (s .pre .tidy) (e .effect-of .ensures) refl)
+    (s .pre .sound, effect-starts (s .args .active) (n .note-acted .result) (e .effect-of .result) _ (s .pre .tidy) (e .effect-of .ensures) refl)
 
 after-effect-requires : tie.Need-after-effect-requires
 after-effect-requires c κs =
@@ -71,7 +66,7 @@ after-effect-requires c κs =
     let e = d .before .before in
     let n = noted (pressed (e .before)) in
     let s = start n in
-    effect-ends (s .args .image .now) _ (acting n) (e .effect-of .result) (d .do-action .result) _ _ (s .pre .tidy) (e .effect-of .ensures) (d .do-action .ensures)
+    effect-ends (s .args .image .now) _ (s .args .active) (n .note-acted .result) (e .effect-of .result) (d .do-action .result) _ _ (s .pre .tidy) (e .effect-of .ensures) (d .do-action .ensures)
 
 returns-3 : tie.Need-returns-3
 unfolding treeIn
@@ -84,9 +79,9 @@ returns-3 c =
     let s = start n in
     let img = s .args .image .now in
     let q = listIn (s .args .queue) in
-    press-acts img (s .args .layers) (s .args .start) (c .after-effect .result) (n .note-acted .result) q (s .args .stacked .event) _ _ (s .args .stacked .since) (Record _) (s .pre .layers) (p .before .before .event2 .given .1) (n .note-acted .ensures)
+    press-acts img (s .args .active) (s .args .notes) (n .note-acted .result) (c .after-effect .result) q (s .args .stacked .event) _ _ (s .args .stacked .since) (n .note-acted .ensures) (s .args .layers) (Record _) (s .pre .layers) (p .before .before .event2 .given .1)
     (ap (treeIn img) (sym (f .before .before .n .given .1)) ∙ p .press-as-action .ensures q)
-    (rw (← f .find-release .ensures) (did-effect img _ (acting n) (c .after-effect .result) (e .effect-of .result) (d .do-action .result) _ _ (s .pre .tidy) (e .effect-of .ensures) (d .do-action .ensures) (c .after-effect .ensures) q))
+    (rw (← f .find-release .ensures) (did-effect img _ (s .args .active) (n .note-acted .result) (c .after-effect .result) (e .effect-of .result) (d .do-action .result) _ _ (s .pre .tidy) (e .effect-of .ensures) (d .do-action .ensures) (c .after-effect .ensures) q))
 
 pub unstack-spec : {M : Type 1} → statement M
 unstack-spec =

@@ -83,7 +83,7 @@ returns-2 c =
     let T = tableOf img in
     let q = listIn (a .append .result) in
     let long = list-length (lay .queue) (o .lined) in
-    let stays = did-nothing img (begun n) q (o .tidy) in
+    let stays = did-nothing img (lay .active) (n .no-notes .result) q (o .tidy) in
     let none : releases e (waitingOf img (lay .active .waiting)) ≡ false = sym (w .releases-waiting .ensures img) ∙ not-true _ (b .before .before .if2 .taken) in
     call-went img lay (begun n) (a .append .result) (event T e) (s .args .out .now) _ (b .answer-of .result) o
     (event-goes img lay (n .no-notes .result) e (a .append .result) (begun n) (appended e (listIn (lay .queue))) still (n .no-notes .ensures) (a .append .ensures .0) (a .append .ensures .1)
@@ -122,7 +122,7 @@ returns-3 c =
     call-went img lay (r .tap-released .result) (a .append .result) (event T e) (s .args .out .now) _ (b .answer-of2 .result) o
     (event-goes img lay (n .no-notes .result) e (a .append .result) (r .tap-released .result) (appended e (listIn (lay .queue))) still (n .no-notes .ensures) (a .append .ensures .0) (a .append .ensures .1)
     (entered-room T e (listIn (lay .queue)) (unpack img lay) (omega (arith, long, t .if1 .taken)))
-    (did-then img (released T e) (did-nothing img (begun n) (listIn (a .append .result)) (o .tidy)) (r .tap-released .ensures)))
+    (did-then img (released T e) (did-nothing img (lay .active) (n .no-notes .result) (listIn (a .append .result)) (o .tidy)) (r .tap-released .ensures)))
     (b .answer-of2 .ensures)
 
 -- there is none: the oldest leaves
@@ -146,13 +146,14 @@ overflow-requires c κs =
 
 tap-released-requires-2 : tie.Need-tap-released-requires-2
 tap-released-requires-2 c κs =
-    let a = c .before in
-    ready (a .before .before .before .before) _ _ (c .overflow .ensures .tidy) (a .append2 .ensures .0)
+    let v = c .before .before in
+    let a = v .before in
+    ready (a .before .before .before .before) _ _ (v .overflow .ensures .tidy) (a .append2 .ensures .0)
 
 answer-of-requires-3 : tie.Need-answer-of-requires-3
 answer-of-requires-3 c κs =
     let r = c .before in
-    (r .tap-released2 .ensures .tidy, opens (r .before .before .before .before .before .before .before) .roomy)
+    (r .tap-released2 .ensures .tidy, opens (r .before .before .before .before .before .before .before .before .before) .roomy)
 
 same-length-3 : tie.Need-same-length-3
 same-length-3 c = search needs
@@ -161,7 +162,7 @@ returns-4 : tie.Need-returns-4
 returns-4 c =
     let b = c .before .before in
     let r = b .before .before in
-    let v = r .before in
+    let v = r .before .before .before in
     let a = v .before in
     let f = a .before in
     let l = f .before .before in

@@ -56,7 +56,7 @@ returns-2 c =
     let lay = s .args .self in
     let begun : Progress = record { active = lay .active; notes = n .no-notes .result } in
     let q = listIn (lay .queue) in
-    let whole = call-went img lay begun (lay .queue) still (s .args .out .now) _ (a .answer-of .result) o (went-did img lay (n .no-notes .result) begun (lay .queue) q still (n .no-notes .ensures) (o .lined) refl (did-nothing img begun q (o .tidy))) (a .answer-of .ensures) in
+    let whole = call-went img lay begun (lay .queue) still (s .args .out .now) _ (a .answer-of .result) o (went-did img lay (n .no-notes .result) begun (lay .queue) q still (n .no-notes .ensures) (o .lined) refl (did-nothing img (lay .active) (n .no-notes .result) q (o .tidy))) (a .answer-of .ensures) in
     ap (λ (x : Reply). record { told = x .told; layout = lay; buffer = x .buffer }) whole
 
 pub keycodes-spec : {M : Type 1} → statement M

@@ -80,7 +80,7 @@ returns-2 c =
     let lay = s .args .self in
     let long = list-length (a .age .result) (a .age .ensures .0) in
     call-went img lay (begun n) (a .age .result) (tick (tableOf img)) (s .args .out .now) _ (b .answer-of .result) o
-    (went-as img (went-did img lay (n .no-notes .result) (begun n) (a .age .result) (older (listIn (lay .queue))) still (n .no-notes .ensures) (a .age .ensures .0) (a .age .ensures .1) (did-nothing img (begun n) (listIn (a .age .result)) (o .tidy)))
+    (went-as img (went-did img lay (n .no-notes .result) (begun n) (a .age .result) (older (listIn (lay .queue))) still (n .no-notes .ensures) (a .age .ensures .0) (a .age .ensures .1) (did-nothing img (lay .active) (n .no-notes .result) (listIn (a .age .result)) (o .tidy)))
     (sym (tick-none (tableOf img) (unpack img lay) (ap (waitingOf img) (t .before .enum-told3 .given .1)) (sym (ap length (a .age .ensures .1)) ∙ long ∙ t .if1 .taken))))
     (b .answer-of .ensures)
 
