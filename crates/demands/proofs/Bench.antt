@@ -15,9 +15,9 @@ use Rattle.debounce.specs.Events.{eventAt, changeAt, changes, written}
 use Rattle.debounce.specs.Calls.{sizesGood, bounceGood, stateGood as bounceState, rule as bounceRule, makingVerdict, eventsVerdict, made, eventsOf, told, buffered as bounceBuffered}
 use Rattle.layout.specs.Actions.{push, pushCodes, find, verdict, doAction, decided}
 use Rattle.layout.specs.Steps.{held, sum, current, pressed, release, act, into, released, overflow, entered, event, ticked, tick, codes}
-use Rattle.layout.specs.Packed.{noted, notedMarks}
-use Rattle.layout.specs.Replies.{replied}
-use Rattle.layout.specs.Calls.{falling, stateGood, rule as layoutRule, judgedBy, judgedOf, answerOf, layoutAfter, buffered}
+use Rattle.layout.specs.State.{falling, stateGood}
+use Rattle.layout.specs.Notes.{notedMarks}
+use Rattle.layout.specs.Calls.{replied, judgedOf, answerOf, layoutAfter, buffered}
 use Rattle.demands.specs.Runs.{call, run, ticks}
 use Rattle.demands.specs.Public.{step, reply, replies}
 use Rattle.demands.specs.Z.{zOf, lent}

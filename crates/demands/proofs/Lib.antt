@@ -1,6 +1,7 @@
 pub mod Cost
 pub mod Marks
-pub mod Actions
+pub mod Legal
+pub mod Waits
 pub mod Calls
 pub mod Drain
 pub mod Limits

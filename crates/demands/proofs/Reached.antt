@@ -22,18 +22,21 @@ use Rattle.image.specs.declared.rules.Checked.the-variants.{Accepted}
 use Rattle.layout.specs.Model.{Waits, Acted, Begun, Decided, fresh, same}
 use Rattle.layout.specs.Actions.{push, pushCodes, find, verdict, doAction, decided}
 use Rattle.layout.specs.Steps.{held, sum, current, pressed, release, act, into, released, overflow, entered, event, ticked, tick}
-use Rattle.layout.specs.declared.run.Way.the-variants.{Tap}
+use Rattle.layout.specs.declared.notes.Way.the-variants.{Tap}
 use Rattle.layout.specs.declared.layout.Layout.{Layout}
 use Rattle.demands.specs.Runs.{Call, call, run, ticks, arrived}
 use Rattle.demands.specs.Words.{downAfter, AllReleased}
-use Rattle.demands.specs.OnLists.{drain, queuedAfter, Quiet}
-use Rattle.demands.specs.Demand3.{boundOf, left, Demand3, OfImages}
-use Rattle.demands.specs.Public.{callsOf, ticksOn, lentAll}
-use Rattle.layout.specs.Calls.{pack}
+use Rattle.demands.specs.Demand3.{boundOf, left, Demand3, OfFresh}
+use Rattle.demands.specs.Public.{Lent, callsOf, ticksOn, lentAll, Roomy}
+use Rattle.layout.specs.Packed.{pack}
 use Rattle.demands.specs.Z.{zOf, lent}
 use Rattle.demands.specs.Reached.{seventeen, tapped, Asked, Reached, Met}
-use Rattle.demands.proofs.Replies.{Tied, tied-fresh, roomy-append, calls-are, lent-calls, lent-roomy, ticks-roomy}
-use Rattle.demands.proofs.Demand3.{at-rest, of-images}
+use Rattle.layout.specs.Reach.{FreshStarts}
+use Rattle.layout.proofs.Reach.{fresh-starts}
+use Rattle.demands.proofs.Legal.{Quiet}
+use Rattle.demands.proofs.OnLists.{drain, queuedAfter}
+use Rattle.demands.proofs.Replies.{Tied, tied-start, roomy-append, calls-are, lent-calls, lent-roomy, ticks-roomy}
+use Rattle.demands.proofs.Demand3.{at-rest, of-fresh}
 
 -- a list of bytes
 bytes-of : (l : List ℕ) → every (λ b. ltb b 256) l ≡ true → (i : ℕ) → getD l i 0 < 256
@@ -57,11 +60,11 @@ module _ (t : ℕ) where
 
 -- what is computed of the two cases
 record Computed : Type 0 where
-  queued : queuedAfter (tableOf (zOf 1)) seventeen ≡ 16
-  before : drain (tableOf (zOf 1)) seventeen 32 .layout .waiting ≡ Waits (record { i = 0; j = 0 }) 0 3 (KeyCode 0xE0) (KeyCode 0x2C)
-  at : Quiet (drain (tableOf (zOf 1)) seventeen 33 .layout)
-  two : queuedAfter (tableOf (zOf 3)) tapped ≡ 2
-  done : let c : Coord = record { i = 0; j = 0 } in drain (tableOf (zOf 3)) tapped 7 .marks ≡ Acted (Press 0 0) ∷ Begun c ∷ Decided c Tap ∷ Acted (Release 0 0) ∷ []
+  queued : queuedAfter (tableOf (zOf 1)) fresh seventeen ≡ 16
+  before : drain (tableOf (zOf 1)) fresh seventeen 32 .layout .waiting ≡ Waits (record { i = 0; j = 0 }) 0 3 (KeyCode 0xE0) (KeyCode 0x2C)
+  at : Quiet (drain (tableOf (zOf 1)) fresh seventeen 33 .layout)
+  two : queuedAfter (tableOf (zOf 3)) fresh tapped ≡ 2
+  done : let c : Coord = record { i = 0; j = 0 } in drain (tableOf (zOf 3)) fresh tapped 7 .marks ≡ Acted (Press 0 0) ∷ Begun c ∷ Decided c Tap ∷ Acted (Release 0 0) ∷ []
 
 computed : Computed
 unfolding zOf seventeen tapped keep wordAt cellOf fieldOf actionOf actionAt cellAt named meaning trees tree treeIn push pushCodes find verdict doAction decided held sum current pressed release act into released overflow entered event ticked tick call run ticks
@@ -74,17 +77,22 @@ lent-room = rw length-replicate (omega arith)
 asked : (t : ℕ) → t < 256 → Asked (zOf t) lent
 asked t h = record { bytes = z-bytes t h; accepted = z-accepted t; room = lent-room }
 
-tied-z : (t : ℕ) (ks : List Call) (n : ℕ) → Tied (zOf t) (shapeOf (zOf t)) (z-accepted t) (lentAll lent ks ++ ticksOn (replicate n lent)) fresh
-tied-z t ks n = tied-fresh (zOf t) (shapeOf (zOf t)) (z-accepted t) _ (roomy-append (lentAll lent ks) (ticksOn (replicate n lent)) (lent-roomy lent ks lent-room) (ticks-roomy lent n lent-room))
+-- from a fresh layout
+tied-z : (t : ℕ) (ks : List Lent) → Roomy ks → Tied (zOf t) (shapeOf (zOf t)) (z-accepted t) ks fresh
+unfolding FreshStarts
+tied-z t ks h = tied-start (zOf t) (shapeOf (zOf t)) (z-accepted t) fresh (fresh-starts (zOf t) (shapeOf (zOf t)) (z-accepted t)) ks h
+
+tied-drain : (t : ℕ) (ks : List Call) (n : ℕ) → Tied (zOf t) (shapeOf (zOf t)) (z-accepted t) (lentAll lent ks ++ ticksOn (replicate n lent)) fresh
+tied-drain t ks n = tied-z t _ (roomy-append (lentAll lent ks) (ticksOn (replicate n lent)) (lent-roomy lent ks lent-room) (ticks-roomy lent n lent-room))
 
 calls-z : (ks : List Call) (n : ℕ) → callsOf (lentAll lent ks ++ ticksOn (replicate n lent)) ≡ ks ++ ticks n
 calls-z ks n = calls-are (lentAll lent ks) (replicate n lent) ∙ rw (lent-calls lent ks, length-replicate)
 
-bound-z : (t q : ℕ) (ks : List Call) → queuedAfter (tableOf (zOf t)) ks ≡ q → boundOf (zOf t) (lentAll lent ks) ≡ 2 * q + max 1 t
-bound-z t q ks e = rw (tied-fresh (zOf t) (shapeOf (zOf t)) (z-accepted t) (lentAll lent ks) (lent-roomy lent ks lent-room) .layout, lent-calls lent ks, e, z-longest t)
+bound-z : (t q : ℕ) (ks : List Call) → queuedAfter (tableOf (zOf t)) fresh ks ≡ q → boundOf (zOf t) fresh (lentAll lent ks) ≡ 2 * q + max 1 t
+bound-z t q ks e = rw (tied-z t (lentAll lent ks) (lent-roomy lent ks lent-room) .layout, lent-calls lent ks, e, z-longest t)
 
-left-z : (t : ℕ) (ks : List Call) (n : ℕ) → left (zOf t) (lentAll lent ks) (replicate n lent) ≡ pack (drain (tableOf (zOf t)) ks n .layout)
-left-z t ks n = tied-z t ks n .layout ∙ rw (calls-z ks n)
+left-z : (t : ℕ) (ks : List Call) (n : ℕ) → left (zOf t) fresh (lentAll lent ks) (replicate n lent) ≡ pack (drain (tableOf (zOf t)) fresh ks n .layout)
+left-z t ks n = tied-drain t ks n .layout ∙ rw (calls-z ks n)
 
 pub reached : Reached
 reached =
@@ -107,16 +115,16 @@ met =
       asked = asked 3 (omega arith);
       released = λ c. up-again (same (record { i = 0; j = 0 }) c);
       most = bound-z 3 2 tapped (computed .two);
-      done = tied-z 3 tapped 7 .marks ∙ rw (calls-z tapped 7) (computed .done);
+      done = tied-drain 3 tapped 7 .marks ∙ rw (calls-z tapped 7) (computed .done);
     }
 
 -- so demand 3 speaks of both
-settles : (image : List ℕ) (calls : List Call) → Asked image lent → Demand3 image (lentAll lent calls)
-unfolding OfImages
-settles image calls a = of-images image (shapeOf image) (a .bytes) (a .accepted) (lentAll lent calls) (lent-roomy lent calls (a .room))
+settles : (image : List ℕ) (calls : List Call) → Asked image lent → Demand3 image fresh (lentAll lent calls)
+unfolding OfFresh
+settles image calls a = of-fresh image (shapeOf image) (a .bytes) (a .accepted) (lentAll lent calls) (lent-roomy lent calls (a .room))
 
-pub reached-settles : Demand3 (zOf 1) (lentAll lent seventeen)
+pub reached-settles : Demand3 (zOf 1) fresh (lentAll lent seventeen)
 reached-settles = settles (zOf 1) seventeen (reached .asked)
 
-pub met-settles : Demand3 (zOf 3) (lentAll lent tapped)
+pub met-settles : Demand3 (zOf 3) fresh (lentAll lent tapped)
 met-settles = settles (zOf 3) tapped (met .asked)

@@ -14,13 +14,13 @@ use Rattle.debounce.specs.Calls.{makingVerdict, made, eventsVerdict, told as to
 use Rattle.debounce.specs.declared.Debouncer.{Debouncer}
 use Rattle.debounce.specs.declared.Count.{Count}
 use Rattle.layout.specs.Model.{fresh}
-use Rattle.layout.specs.Packed.{actedIn, madeIn}
-use Rattle.layout.specs.Calls.{pack}
-use Rattle.layout.specs.declared.run.Way.{Way}
-use Rattle.layout.specs.declared.run.Way.the-variants.{Tap, Hold}
+use Rattle.layout.specs.Packed.{pack}
+use Rattle.layout.specs.Notes.{actedIn, madeIn}
+use Rattle.layout.specs.Calls.{Reply}
+use Rattle.layout.specs.declared.notes.Way.{Way}
+use Rattle.layout.specs.declared.notes.Way.the-variants.{Tap, Hold}
 use Rattle.demands.specs.Runs.{Call, Tick, Enter}
 use Rattle.demands.specs.Public.{lentAll, replies, codesIn}
-use Rattle.layout.specs.Replies.{Reply}
 use Rattle.demands.specs.Z.{z, lent}
 
 -- what goes in

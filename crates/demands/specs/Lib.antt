@@ -1,7 +1,6 @@
 pub mod Runs
 pub mod Answers
 pub mod Words
-pub mod OnLists
 pub mod Public
 pub mod Limits
 pub mod Demand3

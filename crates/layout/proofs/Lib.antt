@@ -8,4 +8,10 @@ pub mod Presses
 pub mod States
 pub mod Calls
 pub mod Told
+pub mod Rooted
+pub mod Lawful
+pub mod Reach
+pub mod Running
+pub mod Limits
+pub mod Asserted
 pub mod Unique

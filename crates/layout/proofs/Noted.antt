@@ -23,6 +23,20 @@ noted-append n (Acted e ∷ a) b = noted-append (noteActed n e) a b
 noted-append n (Begun c ∷ a) b = noted-append n a b
 noted-append n (Decided c w ∷ a) b = noted-append (noteDecision n c w) a b
 
+pub acted-append : (a b : List Mark) → actedOn (a ++ b) ≡ actedOn a ++ actedOn b
+unfolding actedOn
+acted-append [] b = refl
+acted-append (Acted e ∷ a) b = ap (λ (x : List Event). e ∷ x) (acted-append a b)
+acted-append (Begun c ∷ a) b = acted-append a b
+acted-append (Decided c w ∷ a) b = acted-append a b
+
+pub decisions-append : (a b : List Mark) → decisions (a ++ b) ≡ decisions a ++ decisions b
+unfolding decisions
+decisions-append [] b = refl
+decisions-append (Acted e ∷ a) b = decisions-append a b
+decisions-append (Begun c ∷ a) b = decisions-append a b
+decisions-append (Decided c w ∷ a) b = ap (λ (x : List (Coord × Way)). (c, w) ∷ x) (decisions-append a b)
+
 -- a decision leaves the event that the notes name
 placed-acted : (k : ℕ) (d : Decision) (n : Notes) → placed k d n .acted ≡ n .acted
 placed-acted zero d n = refl

@@ -6,5 +6,7 @@ pub mod State
 pub mod Notes
 pub mod Calls
 pub mod Reach
+pub mod Limits
+pub mod Asserted
 pub mod Inside
 pub mod Effects
