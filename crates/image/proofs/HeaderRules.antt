@@ -92,7 +92,7 @@ pub cell-kept : (img : List ℕ) (i : ℕ) → cellFault img i ≡ Fine → cell
 unfolding cellFault
 cell-kept img i e = ltb-true (cellOf img i) (recordsOf img) (rule-fine _ refusal.Cell i Fine e .0)
 
--- a cell's place fits a machine word, since rows and columns are words
+-- a cell's place fits 64 bits, since rows and columns are words
 pub room : (l m r n : ℕ) → l < 65536 → m < 65536 → r < 65536 → n < 65536 → (l * m ≤ 2 ^ 32) × ((l * m + r) * n ≤ 2 ^ 33 * 65536)
 room l m r n hl hm hr hn =
     let p : l * m ≤ 65536 * 65536 = mul-le-mul (le-of-lt hl) (le-of-lt hm) in

@@ -13,7 +13,7 @@ use Rattle.lists.proofs.Laws.{every-head}
 use Rattle.image.specs.Inside.{Placed, Formed, wordsFrom, ChildWords, childrenAt, weighedOf, childrenOf, Parts}
 use Rattle.image.specs.Words.{recordsAt, wordAt, fieldOf, entries}
 use Rattle.image.specs.Record.{actionOf, childrenIn, listEnd}
-use Rattle.image.specs.Tree.{Action, MultipleActions, HoldTap, _&_, named, meaning, tree, open?, someOpen, shutButLast, weight, weights}
+use Rattle.image.specs.Tree.{Action, named, meaning, tree, open?, someOpen, shutButLast, weight, weights}
 use Rattle.image.specs.Check.{form, formGood}
 use Rattle.image.specs.declared.children.Child.{Child}
 use Rattle.image.specs.declared.children.Weighed.{Weighed}
@@ -100,6 +100,10 @@ weighed-is a p q = λ i. record { weight = p i; opens = q i }
 pub leaf : (img : List ℕ) (n : ℕ) (it : Child) → Parts img n it → it .count ≤ 0 → record { weight = it .own; opens = it .opens } ≡ weighedOf (tree img n)
 leaf img n it w h = let e = children-end img (it .at) (it .count) h in weighed-is (tree img n) (omega (arith, e .0, w .weighs)) (opens-end (e .1) (w .opens))
 
+-- a child that has children of its own weighs 1 by itself
+pub parts-one : (img : List ℕ) (n : ℕ) (it : Child) → Parts img n it → (it .count ≡ 0 → ⊥) → Parts img n (record { own = 1; opens = it .opens; at = it .at; count = it .count })
+parts-one img n it p h = record { words = p .words; one = λ z. refl; weighs = omega (arith, p .weighs, p .one (omega (arith, h))); opens = p .opens }
+
 -- a list and one more: lower, open, weight
 pub every-one : (t : ℕ → Bool) (z : ℕ) → every t (z ∷ []) ≡ t z
 unfolding every
@@ -143,6 +147,7 @@ module _ (img : List ℕ) (r l n : ℕ) (p : Placed img r l) (f : Formed img n) 
       rw (a, b)
       (record {
         words = record { inside = omega (arith, m .listed, p .second, p .framed .whole); few = omega (arith, m .listed, p .framed .entries); lower = rw (← w) (m .lower) };
+        one = λ h. refl;
         weighs = rw (← w) (sym (ap weight (m .is)));
         opens = rw (← w) (sym (ap open? (m .is)));
       })
@@ -154,6 +159,7 @@ module _ (img : List ℕ) (r l n : ℕ) (p : Placed img r l) (f : Formed img n) 
       let w = pair-words img r l n p in
       record {
         words = record { inside = omega (arith, f .inside, p .first, p .framed .whole, p .framed .list-at); few = omega arith; lower = rw w (m .lower) };
+        one = λ h. refl;
         weighs = rw w (omega (arith, ap weight (m .is)));
         opens = sym (ap open? (m .is));
       }
@@ -190,4 +196,4 @@ pub plain-parts : (img : List ℕ) (n w : ℕ) → Formed img n → Good img n �
 unfolding every wordsFrom named weight open?
 plain-parts img n w f g h h4 e =
     let both = plain img n f g h h4 in
-    record { words = record { inside = omega arith; few = omega arith; lower = refl }; weighs = omega (arith, e, both .0); opens = sym (both .1) }
+    record { words = record { inside = omega arith; few = omega arith; lower = refl }; one = λ h. absurd (omega arith); weighs = omega (arith, e, both .0); opens = sym (both .1) }

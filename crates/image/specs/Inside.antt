@@ -3,7 +3,7 @@
 -- Assumes nothing.
 use Prim.Native.Nat.{ℕ, zero, suc, _+_, _*_, _<_, _≤_}
 use mathlib.Core.Path.{_≡_}
-use mathlib.Core.Bool.{true, false, cond, _||_}
+use mathlib.Core.Bool.{Bool, true, false, cond, _||_}
 use mathlib.Core.List.{List, [], _∷_}
 use lib.ListN.{length}
 use lib.Dec.{ltb}
@@ -56,13 +56,19 @@ childrenOf img n ks =
     (record { lower = true; opens = someOpen (named (tree img) ks); weight = weights (named (tree img) ks) })
     (record { lower = false; opens = false; weight = 0 })
 
--- record n is what it is by itself, and its children
+-- record n is what it is by itself, and its children; one that has children weighs 1 by itself
 pub record Parts (img : List ℕ) (n : ℕ) (it : Child) : Type 0 where
   pub words : ChildWords img n (it .at) (it .count)
+  pub one : 0 < it .count → it .own ≡ 1
   pub weighs : it .own + weights (childrenAt img (it .at) (it .count)) ≡ weight (tree img n)
   pub opens : (it .opens || someOpen (childrenAt img (it .at) (it .count))) ≡ open? (tree img n)
 
--- what is asked where the children of record n are weighed, which so many words from a byte offset number
+-- what is asked where record n is weighed, which is good: whether it is open by itself, and the words of its children
+abbrev pub WeighAsked : List ℕ → ℕ → ℕ → ℕ → Bool → ℕ → ℕ → Type 0
+WeighAsked img records-at list-at n alone at count =
+    Placed img records-at list-at × Formed img n × Good img n × Parts img n (record { own = 1; opens = alone; at = at; count = count })
+
+-- where the children of record n are, which so many words from a byte offset number
 abbrev pub ChildrenAsked : List ℕ → ℕ → ℕ → ℕ → ℕ → ℕ → Type 0
 ChildrenAsked img records-at list-at n at count =
     Placed img records-at list-at × Formed img n × (at + 2 * count ≤ length img) × (count ≤ 1024)

@@ -35,7 +35,7 @@ named lower (k ∷ ks) = lower k & named lower ks
 unfoldable pub meaning : List ℕ → (ℕ → Action) → ℕ → Record → Action
 meaning img lower n code.NoOp = NoOp
 meaning img lower n code.Trans = Trans
-meaning img lower n (code.KeyCode code) = KeyCode code
+meaning img lower n (code.KeyCode key) = KeyCode key
 meaning img lower n (code.MultipleKeyCodes first count) = MultipleKeyCodes (entries img first count)
 meaning img lower n (code.MultipleActions first count) = MultipleActions (named lower (entries img first count))
 meaning img lower n (code.Layer number) = Layer number

@@ -5,7 +5,7 @@ use super::words::field;
 use super::words::word;
 ghost use mathlib.Core.Path.{_≡_};
 ghost use mathlib.Core.Bool.{_||_};
-ghost use Rattle.image.specs.Inside.{Placed, Formed, wordsFrom, weighedOf, childrenOf, Parts, ChildrenAsked};
+ghost use Rattle.image.specs.Inside.{Placed, Formed, wordsFrom, weighedOf, childrenOf, Parts, WeighAsked, ChildrenAsked};
 ghost use Rattle.image.specs.Tree.{tree};
 ghost use Rattle.image.specs.Sound.{Good};
 
@@ -78,27 +78,35 @@ fn child_at(image: &[u8], records_at: usize, list_at: usize, n: usize) -> Child
     }
 }
 
-// The weight of record n, which is good, and whether it is open: by recursion over its children, which are lower. A child
-// that has none of its own is no call.
-fn weigh(image: &[u8], records_at: usize, list_at: usize, n: usize, it: Child) -> Weighed
-    requires { ⌜ Placed (now image) «records_at» «list_at» × Formed (now image) n × Good (now image) n × Parts (now image) n it ⌝ }
+// The weight of record n, which is good, and whether it is open: it weighs 1 and is open or not by itself, and the rest by
+// recursion over its children, which are lower. A child that has none of its own is no call.
+fn weigh(
+    image: &[u8],
+    records_at: usize,
+    list_at: usize,
+    n: usize,
+    alone: bool,
+    at: usize,
+    count: usize,
+) -> Weighed
+    requires { ⌜ WeighAsked (now image) «records_at» «list_at» n alone at count ⌝ }
     ensures { λ r. ⌜ r ≡ weighedOf (tree (now (image .entry)) n) ⌝ }
 {
-    let mut weight = it.own;
-    let mut opens = it.opens;
-    let mut from = it.at;
-    let mut left = it.count;
+    let mut weight = 1;
+    let mut opens = alone;
+    let mut from = at;
+    let mut left = count;
     while 0 < left {
         let k = word(image, from) as usize;
-        let child = child_at(image, records_at, list_at, k);
+        let it = child_at(image, records_at, list_at, k);
         from += 2;
         left -= 1;
-        if child.count == 0 {
-            weight += child.own;
-            opens = either(opens, child.opens);
+        if it.count == 0 {
+            weight += it.own;
+            opens = either(opens, it.opens);
             continue;
         }
-        let whole = weigh(image, records_at, list_at, k, child);
+        let whole = weigh(image, records_at, list_at, k, it.opens, it.at, it.count);
         weight += whole.weight;
         opens = either(opens, whole.opens);
     }
@@ -126,15 +134,15 @@ pub(crate) fn weigh_children(
         if n <= k {
             return NOT_LOWER;
         }
-        let child = child_at(image, records_at, list_at, k);
+        let it = child_at(image, records_at, list_at, k);
         from += 2;
         left -= 1;
-        if child.count == 0 {
-            weight += child.own;
-            opens = either(opens, child.opens);
+        if it.count == 0 {
+            weight += it.own;
+            opens = either(opens, it.opens);
             continue;
         }
-        let whole = weigh(image, records_at, list_at, k, child);
+        let whole = weigh(image, records_at, list_at, k, it.opens, it.at, it.count);
         weight += whole.weight;
         opens = either(opens, whole.opens);
     }

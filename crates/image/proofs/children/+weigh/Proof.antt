@@ -2,7 +2,7 @@
 use Prim.Native.Nat.{ℕ, _+_, _-_, _<_}
 use Rattle.image.proofs.Entries.{words-head}
 use Rattle.image.proofs.Trees.{formed-lower}
-use Rattle.image.proofs.Weights.{children-step, children-end, child-words-tail, opens-on, opens-end, weighed-is, leaf}
+use Rattle.image.proofs.Weights.{children-step, children-end, child-words-tail, opens-on, opens-end, weighed-is, leaf, parts-one}
 use Rattle.image.specs.Inside.{ChildWords, childrenAt, weighedOf}
 use Rattle.image.specs.declared.children.Weighed.{Weighed}
 use Rattle.image.specs.Tree.{tree, weight, weights, open?, someOpen}
@@ -35,11 +35,11 @@ abbrev weigh-below : ℕ → In 1 weigh-kinds.ps
 weigh-below t = and 1 weigh-kinds.ps (falls 1 weigh-kinds.ps _<_ μ-weigh t) weigh.Pre
 
 abbrev weigh-Inv-loop : weigh-lts.InvT-loop
-weigh-Inv-loop image records-at list-at n w₀ o₀ from₀ left₀ w o from left =
+weigh-Inv-loop image records-at list-at n alone at count w₀ o₀ from₀ left₀ w o from left =
     ChildWords image n from left × (w + weights (childrenAt image from left) ≡ weight (tree image n)) × ((o || someOpen (childrenAt image from left)) ≡ open? (tree image n))
 
 abbrev weigh-μ-loop : weigh-lts.MeasureT-loop
-weigh-μ-loop image records-at list-at n w₀ o₀ from₀ left₀ w o from left = left
+weigh-μ-loop image records-at list-at n alone at count w₀ o₀ from₀ left₀ w o from left = left
 
 -- what the functions called promise
 abbrev claims : ℕ → weigh-lts.Claims
@@ -117,7 +117,7 @@ weigh-weigh-requires t c κs =
     let k = c .before .before in
     let r = k .before in
     let p = start t r .pre in
-    (omega (arith, low t r, p .0), (p .1 .0, formed-lower _ _ _ (p .1 .1) (low t r), p .1 .1 .before _ (low t r), k .child-at .ensures))
+    (omega (arith, low t r, p .0), (p .1 .0, formed-lower _ _ _ (p .1 .1) (low t r), p .1 .1 .before _ (low t r), parts-one _ _ _ (k .child-at .ensures) (c .if1 .left)))
 
 weigh-add-weight-2 : (t : ℕ) → weigh-lts.Need-add-weight-2 (claims t) (weigh-at t) weigh.Post weigh-Inv-loop weigh-μ-loop
 weigh-add-weight-2 t c =

@@ -2,7 +2,7 @@
 use Prim.Native.Nat.{ℕ, _*_, _+_, _-_, _≤_}
 use Rattle.image.proofs.Entries.{below-no, below-none, below-on}
 use Rattle.image.proofs.Trees.{formed-lower}
-use Rattle.image.proofs.Weights.{children-step, children-end, opens-on, opens-end, leaf, sum-no, sum-yes}
+use Rattle.image.proofs.Weights.{children-step, children-end, opens-on, opens-end, leaf, parts-one, sum-no, sum-yes}
 use Rattle.image.specs.Inside.{wordsFrom, childrenAt, weighedOf}
 use Rattle.image.specs.Tree.{tree, weight, weights, someOpen}
 use Rattle.image.specs.Words.{wordAt}
@@ -109,7 +109,7 @@ weigh-requires c κs =
     let k = c .before .before in
     let p = start (reading k) .pre in
     let h = k .before .if1 .left in
-    (p .0, formed-lower _ _ _ (p .1) h, p .1 .before _ h, k .child-at .ensures)
+    (p .0, formed-lower _ _ _ (p .1) h, p .1 .before _ h, parts-one _ _ _ (k .child-at .ensures) (c .if2 .left))
 
 add-weight-2 : tie.Need-add-weight-2 Inv-loop μ-loop
 add-weight-2 c =
