@@ -28,8 +28,8 @@ eventsIn s =
     cond (s .changed) (changes (s .debouncer .columns) 0 (take (switches (s .debouncer)) (s .debouncer .new)) (take (switches (s .debouncer)) (s .debouncer .cur))) []
 
 -- a buffer with room for an event of each switch, and sizes whose product is small
-abbrev pub Roomy : Debouncer → ℕ → Type 0
-Roomy d room = (0 < d .columns) × (d .columns ≤ 16) × (switches d ≤ 128) × (3 * switches d ≤ room)
+abbrev pub RoomFor : Debouncer → ℕ → Type 0
+RoomFor d room = (0 < d .columns) × (d .columns ≤ 16) × (switches d ≤ 128) × (3 * switches d ≤ room)
 
 -- events more, behind so many that stand in a buffer: how many there are then, and the buffer then
 abbrev pub AddedTo : List ℕ → ℕ → List Event → ℕ → List ℕ → Type 0

@@ -9,7 +9,7 @@ ghost use lib.ListN.{length, take};
 ghost use lib.Seq.{sets};
 ghost use Rattle.event.specs.Bytes.{bytesOf};
 ghost use Rattle.debounce.specs.Events.{eventAt, changeAt, changes};
-ghost use Rattle.debounce.specs.Inside.{eventsIn, AddedTo, WrittenTo, Roomy};
+ghost use Rattle.debounce.specs.Inside.{eventsIn, AddedTo, WrittenTo, RoomFor};
 
 // The event of the switch at a place, which now is so.
 fn event_at(columns: usize, place: usize, is: u8) -> Event
@@ -63,7 +63,7 @@ fn tell(before: [u8; 128], after: [u8; 128], n: usize, columns: usize, out: &mut
 
 // The events of a step, in the buffer, and how many.
 pub(crate) fn tell_step(step: Step, out: &mut [u8]) -> usize
-    requires { ⌜ Roomy (step .debouncer) (length (now out)) ⌝ }
+    requires { ⌜ RoomFor (step .debouncer) (length (now out)) ⌝ }
     ensures { λ r. ⌜ WrittenTo (now (out .entry)) (eventsIn step) r (now (out .exit)) ⌝ }
 {
     if !step.changed {

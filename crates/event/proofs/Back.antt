@@ -6,7 +6,7 @@ use mathlib.Core.List.{List, [], _∷_}
 use mathlib.Core.Path.{_≡_, refl, sym, ap, _∙_}
 use borrow.Author.Tests.{eqb-true}
 use lib.Dec.{eqb}
-use Rattle.event.specs.Bytes.{bytesOf, readOf, readSaid}
+use Rattle.event.specs.Bytes.{bytesOf, readOf, readValues}
 use Rattle.event.specs.declared.Event.{Event}
 use Rattle.event.specs.declared.Event.the-variants.{Release, Press}
 use Rattle.event.specs.declared.Read.{Read}
@@ -30,10 +30,10 @@ abbrev back : List ℕ → Read
 back [] = read.Nothing
 back (kind ∷ rest) = readOf (kind ∷ rest)
 
-said-back : (r : Read) → back (readSaid r) ≡ r
-said-back (read.Event (Release i j)) = refl
-said-back (read.Event (Press i j)) = refl
-said-back read.Nothing = refl
+values-back : (r : Read) → back (readValues r) ≡ r
+values-back (read.Event (Release i j)) = refl
+values-back (read.Event (Press i j)) = refl
+values-back read.Nothing = refl
 
-pub read-one : (x y : Read) → readSaid x ≡ readSaid y → x ≡ y
-read-one x y e = sym (said-back x) ∙ ap back e ∙ said-back y
+pub read-one : (x y : Read) → readValues x ≡ readValues y → x ≡ y
+read-one x y e = sym (values-back x) ∙ ap back e ∙ values-back y

@@ -6,7 +6,7 @@ use native.Mathlib.Omega.{arith}
 use Rattle.lists.specs.Lists.{alike}
 use Rattle.lists.proofs.Laws.{alike-self, alike-not}
 use Rattle.codes.specs.declared.report.KbHidReport.{KbHidReport}
-use Rattle.keyboard.specs.Keyboard.{reported, ChangeTold}
+use Rattle.keyboard.specs.Keyboard.{reported, ExactlyIfDiffers}
 use Rattle.keyboard.specs.declared.Keyboard.{Keyboard}
 
 equal-none : (k : Keyboard) (report : KbHidReport) → k .report .bytes ≡ report .bytes → reported k report .changed ≡ false
@@ -19,10 +19,10 @@ differs-some : (k : Keyboard) (report : KbHidReport) → (k .report .bytes ≡ r
 unfolding reported
 differs-some k report differs = rw (alike-not (k .report .bytes) (report .bytes) differs)
 
-pub change-told : ChangeTold
-unfolding ChangeTold
-change-told k report =
+pub exactly-if-differs : ExactlyIfDiffers
+unfolding ExactlyIfDiffers
+exactly-if-differs k report =
     record {
-      told-differs = λ told e. let none = equal-none k report e in let z : _≡_ {A = ℕ} 0 1 = cc in absurd (omega arith);
-      differs-told = differs-some k report;
+      changed-differs = λ is e. let none = equal-none k report e in let z : _≡_ {A = ℕ} 0 1 = cc in absurd (omega arith);
+      differs-changed = differs-some k report;
     }

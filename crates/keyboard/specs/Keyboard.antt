@@ -51,12 +51,12 @@ reported k report =
     (record { changed = true; keyboard = withReport k report 0 })
 
 -- that it is true exactly if the bytes differ
-pub record ToldExactly (k : Keyboard) (report : KbHidReport) : Type 0 where
-  pub told-differs : reported k report .changed ≡ true → k .report .bytes ≡ report .bytes → ⊥
-  pub differs-told : (k .report .bytes ≡ report .bytes → ⊥) → reported k report .changed ≡ true
+pub record ChangedExactly (k : Keyboard) (report : KbHidReport) : Type 0 where
+  pub changed-differs : reported k report .changed ≡ true → k .report .bytes ≡ report .bytes → ⊥
+  pub differs-changed : (k .report .bytes ≡ report .bytes → ⊥) → reported k report .changed ≡ true
 
-unfoldable pub ChangeTold : Type 0
-ChangeTold = (k : Keyboard) (report : KbHidReport) → ToldExactly k report
+unfoldable pub ExactlyIfDiffers : Type 0
+ExactlyIfDiffers = (k : Keyboard) (report : KbHidReport) → ChangedExactly k report
 
 -- Input, any id: the report; any other type is refused
 unfoldable pub fetched : Keyboard → ℕ → ℕ → Fetched

@@ -10,14 +10,14 @@ use Rattle.keyboard.specs.declared.Fetched.{Fetched}
 use Rattle.keyboard.specs.declared.Answered.{Answered}
 use Rattle.keyboard.specs.declared.Clocked.{Clocked}
 
-abbrev pub Changes : Changed → Bool → Keyboard → Type 0
-Changes c changed keyboard = (changed ≡ c .changed) × (keyboard ≡ c .keyboard)
+abbrev pub LentChanged : Changed → Bool → Keyboard → Type 0
+LentChanged c changed keyboard = (changed ≡ c .changed) × (keyboard ≡ c .keyboard)
 
-abbrev pub Fetches : Fetched → Got → Keyboard → Type 0
-Fetches f got keyboard = (got ≡ f .got) × (keyboard ≡ f .keyboard)
+abbrev pub LentFetched : Fetched → Got → Keyboard → Type 0
+LentFetched f got keyboard = (got ≡ f .got) × (keyboard ≡ f .keyboard)
 
-abbrev pub Answers : Answered → ℕ → Keyboard → Type 0
-Answers a number keyboard = (number ≡ a .number) × (keyboard ≡ a .keyboard)
+abbrev pub LentAnswered : Answered → ℕ → Keyboard → Type 0
+LentAnswered a number keyboard = (number ≡ a .number) × (keyboard ≡ a .keyboard)
 
-abbrev pub Clocks : Clocked → Bool → Keyboard → Type 0
-Clocks c due keyboard = (due ≡ c .due) × (keyboard ≡ c .keyboard)
+abbrev pub LentClocked : Clocked → Bool → Keyboard → Type 0
+LentClocked c due keyboard = (due ≡ c .due) × (keyboard ≡ c .keyboard)

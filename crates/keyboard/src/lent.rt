@@ -6,11 +6,11 @@ use super::Keyboard;
 use codes::KbHidReport;
 ghost use Rattle.keyboard.specs.Keyboard.{reported, fetched, lit};
 ghost use Rattle.keyboard.specs.Idle.{idled, clocked};
-ghost use Rattle.keyboard.specs.Lent.{Changes, Fetches, Answers, Clocks};
+ghost use Rattle.keyboard.specs.Lent.{LentChanged, LentFetched, LentAnswered, LentClocked};
 
 #[no_mangle]
 pub extern "C" fn keyboard_set_keyboard_report(kb: &mut Keyboard, report: KbHidReport) -> bool
-    ensures { λ r. ⌜ Changes (reported (now (kb .entry)) report) r (now (kb .exit)) ⌝ }
+    ensures { λ r. ⌜ LentChanged (reported (now (kb .entry)) report) r (now (kb .exit)) ⌝ }
 {
     let done = (*kb).set_keyboard_report(report);
     *kb = done.keyboard;
@@ -19,7 +19,7 @@ pub extern "C" fn keyboard_set_keyboard_report(kb: &mut Keyboard, report: KbHidR
 
 #[no_mangle]
 pub extern "C" fn keyboard_get_report(kb: &mut Keyboard, kind: u8, id: u8) -> Got
-    ensures { λ r. ⌜ Fetches (fetched (now (kb .entry)) kind id) r (now (kb .exit)) ⌝ }
+    ensures { λ r. ⌜ LentFetched (fetched (now (kb .entry)) kind id) r (now (kb .exit)) ⌝ }
 {
     let done = (*kb).get_report(kind, id);
     *kb = done.keyboard;
@@ -28,7 +28,7 @@ pub extern "C" fn keyboard_get_report(kb: &mut Keyboard, kind: u8, id: u8) -> Go
 
 #[no_mangle]
 pub extern "C" fn keyboard_set_report(kb: &mut Keyboard, kind: u8, id: u8, bytes: &[u8]) -> u8
-    ensures { λ r. ⌜ Answers (lit (now (kb .entry)) kind id (now (bytes .entry))) r (now (kb .exit)) ⌝ }
+    ensures { λ r. ⌜ LentAnswered (lit (now (kb .entry)) kind id (now (bytes .entry))) r (now (kb .exit)) ⌝ }
 {
     let done = (*kb).set_report(kind, id, bytes);
     *kb = done.keyboard;
@@ -37,7 +37,7 @@ pub extern "C" fn keyboard_set_report(kb: &mut Keyboard, kind: u8, id: u8, bytes
 
 #[no_mangle]
 pub extern "C" fn keyboard_set_idle(kb: &mut Keyboard, rate: u8) -> u8
-    ensures { λ r. ⌜ Answers (idled (now (kb .entry)) rate) r (now (kb .exit)) ⌝ }
+    ensures { λ r. ⌜ LentAnswered (idled (now (kb .entry)) rate) r (now (kb .exit)) ⌝ }
 {
     let done = (*kb).set_idle(rate);
     *kb = done.keyboard;
@@ -46,7 +46,7 @@ pub extern "C" fn keyboard_set_idle(kb: &mut Keyboard, rate: u8) -> u8
 
 #[no_mangle]
 pub extern "C" fn keyboard_clock(kb: &mut Keyboard) -> bool
-    ensures { λ r. ⌜ Clocks (clocked (now (kb .entry))) r (now (kb .exit)) ⌝ }
+    ensures { λ r. ⌜ LentClocked (clocked (now (kb .entry))) r (now (kb .exit)) ⌝ }
 {
     let done = (*kb).clock();
     *kb = done.keyboard;
