@@ -1,41 +1,34 @@
--- What a line of `panel` says: document 01, Bench cases. Bytes are ASCII: 48 to 57 are the digits, 32 is the space, 112 is p,
--- 114 is r, 116 is t.
+-- What a line of `panel` says: document 01, Bench cases. Bytes are ASCII: 32 is the space, 112 is p, 114 is r, 116 is t.
 -- Assumes nothing.
-use Prim.Native.Nat.{ℕ, suc, _+_, _*_, _-_}
+use Prim.Native.Nat.{ℕ, suc, _+_}
 use mathlib.Core.Bool.{Bool, cond, _&&_}
 use mathlib.Core.List.{List, [], _∷_}
-use lib.Dec.{eqb, leb}
+use lib.Dec.{eqb}
 use lib.ListN.{length, getD, take, drop}
+use Rattle.event.specs.Bytes.{bytesOf}
 use Rattle.event.specs.declared.Event.the-variants.{Press, Release}
+use Rattle.talk.specs.Number.{numberWithin}
+use Rattle.talk.specs.declared.digits.Number.{Number}
+use Rattle.talk.specs.declared.digits.Number.the-variants as number
 use Rattle.lines.specs.declared.Coords.{Coords}
 use Rattle.lines.specs.declared.Coords.the-variants.{At, Nowhere}
 use Rattle.lines.specs.declared.Line.{Line}
 use Rattle.lines.specs.declared.Line.the-variants.{Key, Tick, Unread}
-
--- a digit's value; every other byte counts 256, so that no word with one in it comes to 255 or less
-unfoldable pub digitOf : ℕ → ℕ
-digitOf c = cond (leb 48 c && leb c 57) (c - 48) 256
-
--- what a word of one to three bytes comes to in decimal; any other word comes to 256
-unfoldable pub valueOf : List ℕ → ℕ
-valueOf [] = 256
-valueOf (a ∷ []) = digitOf a
-valueOf (a ∷ b ∷ []) = 10 * digitOf a + digitOf b
-valueOf (a ∷ b ∷ c ∷ []) = 100 * digitOf a + 10 * digitOf b + digitOf c
-valueOf (a ∷ b ∷ c ∷ d ∷ w) = 256
 
 -- the place of the first space; where there is none, the list's length
 unfoldable pub spaceAt : List ℕ → ℕ
 spaceAt [] = 0
 spaceAt (c ∷ cs) = cond (eqb c 32) 0 (suc (spaceAt cs))
 
--- a row and a column, both up to 255
-unfoldable pub pair : ℕ → ℕ → Coords
-pair i j = cond (leb i 255 && leb j 255) (At i j) Nowhere
+-- a row and a column, where both could be read
+abbrev pub pair : Number → Number → Coords
+pair (number.Value i) (number.Value j) = At i j
+pair (number.Value i) number.Unread = Nowhere
+pair number.Unread column = Nowhere
 
--- two numbers with one space between them
+-- two numbers with one space between them, each of one to three digits and up to 255
 unfoldable pub coordsOf : List ℕ → Coords
-coordsOf cs = pair (valueOf (take (spaceAt cs) cs)) (valueOf (drop (spaceAt cs + 1) cs))
+coordsOf cs = pair (numberWithin 3 255 (take (spaceAt cs) cs)) (numberWithin 3 255 (drop (spaceAt cs + 1) cs))
 
 -- a press and a release there
 abbrev pub pressAt : Coords → Line
@@ -56,3 +49,9 @@ lineOf cs =
     cond (eqb (length cs) 1 && eqb (getD cs 0 0) 116) Tick
     (cond (opens 112 cs) (pressAt (coordsOf (drop 2 cs)))
     (cond (opens 114 cs) (releaseAt (coordsOf (drop 2 cs))) Unread))
+
+-- the values of what a line says: an event's three bytes; a tick's letter; nothing
+abbrev pub saysOf : Line → List ℕ
+saysOf (Key event) = bytesOf event
+saysOf Tick = 116 ∷ []
+saysOf Unread = []

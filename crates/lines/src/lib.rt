@@ -1,10 +1,16 @@
-// What a line of `panel` says: document 01, Bench cases. `t` is a tick; `p I J` is a press at row I, column J, and `r I J` a
-// release, I and J decimal numbers up to 255 of one to three digits, words parted by one space. Assumes nothing.
+// What a line of `panel` says, and what is printed for it: document 01, Bench cases. `t` is a tick; `p I J` is a press at row
+// I, column J, and `r I J` a release, I and J decimal numbers up to 255 of one to three digits, words parted by one space.
+// Assumes nothing.
+mod print;
+
 use event::Event;
+pub use print::answer_line;
+use talk::Number;
+use talk::decimal_within;
 ghost use mathlib.Core.Path.{_≡_};
 ghost use Prim.Native.Nat.{_≤_};
 ghost use lib.ListN.{length, getD};
-ghost use Rattle.lines.specs.Line.{digitOf, valueOf, spaceAt, coordsOf, pressAt, releaseAt, lineOf};
+ghost use Rattle.lines.specs.Line.{spaceAt, coordsOf, pressAt, releaseAt, lineOf, saysOf};
 
 pub enum Line {
     Key(Event),
@@ -23,35 +29,6 @@ fn byte(bytes: &[u8], at: usize) -> u8
     ensures { λ r. ⌜ r ≡ getD (now (bytes .entry)) at 0 ⌝ }
 {
     if at < bytes.len() { bytes[at] } else { 0 }
-}
-
-// The value of a decimal digit; of any other byte a number past every one that a line may hold.
-fn digit(c: u8) -> usize
-    ensures { λ r. ⌜ (r ≡ digitOf c) × (r ≤ 256) ⌝ }
-{
-    if c < b'0' {
-        return 256;
-    }
-    if b'9' < c {
-        return 256;
-    }
-    (c - b'0') as usize
-}
-
-// A word of one to three digits, as a number; past 255 where it is none.
-fn value(word: &[u8]) -> usize
-    ensures { λ r. ⌜ r ≡ valueOf (now (word .entry)) ⌝ }
-{
-    if word.len() == 1 {
-        return digit(word[0]);
-    }
-    if word.len() == 2 {
-        return 10 * digit(word[0]) + digit(word[1]);
-    }
-    if word.len() == 3 {
-        return 100 * digit(word[0]) + 10 * digit(word[1]) + digit(word[2]);
-    }
-    256
 }
 
 // The place of the first space, or the length where there is none.
@@ -76,14 +53,12 @@ fn coords_in(bytes: &[u8]) -> Coords
     if n == bytes.len() {
         return Coords::Nowhere;
     }
-    let i = value(&bytes[..n]);
-    let j = value(&bytes[n + 1..]);
-    if 255 < i {
+    let Number::Value(i) = decimal_within(&bytes[..n], 3, 255) else {
         return Coords::Nowhere;
-    }
-    if 255 < j {
+    };
+    let Number::Value(j) = decimal_within(&bytes[n + 1..], 3, 255) else {
         return Coords::Nowhere;
-    }
+    };
     Coords::At(i as u8, j as u8)
 }
 
@@ -107,7 +82,7 @@ fn release_at(at: Coords) -> Line
 
 // What a line says, without its newline.
 pub fn read_line(line: &[u8]) -> Line
-    ensures { λ r. ⌜ r ≡ lineOf (now (line .entry)) ⌝ }
+    ensures { λ r. ⌜ saysOf r ≡ saysOf (lineOf (now (line .entry))) ⌝ }
 {
     let letter = byte(line, 0);
     let second = byte(line, 1);

@@ -2,7 +2,7 @@
 use Prim.Native.Nat.{ℕ, suc, _+_, _-_, _/_, _%_, _<_, _≤_}
 use mathlib.Core.Bool.{true, false, and-false}
 use mathlib.Core.List.{List, [], _∷_, _++_}
-use mathlib.Core.Path.{_≡_, refl}
+use mathlib.Core.Path.{_≡_, refl, sym}
 use native.Mathlib.Numerals.{add-one}
 use lib.Dec.{ltb}
 use borrow.Author.Tests.{lt-ltb, le-ltb, le-leb, lt-leb, ne-eqb}
@@ -11,6 +11,7 @@ use lib.Seq.{drop-cons, length-take-le, paste}
 use Rattle.talk.specs.declared.input.Place.{Place}
 use Rattle.talk.specs.declared.text.Text.{Text}
 use Rattle.talk.specs.Text.{put, putAll, glyphOf, hexOf, placeOf, decimalOf}
+use Rattle.talk.specs.Reply.{refusedLine}
 use Rattle.talk.specs.Input.{lineLength, countOf, appended, within, rest, gatheredPlace, gatheredLine}
 
 -- a text with room, and a full one
@@ -121,3 +122,9 @@ module _ (input line : List ℕ) (p : Place) (w : within input p ≡ true) (n : 
   pub line-after : (after : List ℕ) → after ≡ appended line (p .held) (take n (rest input p)) → after ≡ gatheredLine input line p
   unfolding gatheredLine
   line-after after h = rw (w, h, e)
+
+-- a refusal's line, put piece by piece
+pub refused-is : (t : Text) (number place : ℕ)
+    → putAll (put (putAll (putAll t (114 ∷ 101 ∷ 102 ∷ 117 ∷ 115 ∷ 101 ∷ 100 ∷ 32 ∷ [])) (decimalOf number)) 32) (decimalOf place) ≡ putAll t (refusedLine number place)
+unfolding refusedLine putAll
+refused-is t number place = sym (all-append _ (decimalOf number) (32 ∷ decimalOf place))

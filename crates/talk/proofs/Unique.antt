@@ -4,16 +4,26 @@ use mathlib.Core.List.{List}
 use Prim.Native.Nat.{ℕ}
 use denote.Ref.{now}
 use Rattle.decides.specs.Decides.{Decides, DecidesAs, both}
+use Rattle.talk.proofs.digits.decimal as I
+use Rattle.talk.proofs.digits.decimal_within as W
 use Rattle.talk.proofs.input.Place.start as S
 use Rattle.talk.proofs.input.Place.filled as F
 use Rattle.talk.proofs.input.Place.answered as D
 use Rattle.talk.proofs.input.front as R
 use Rattle.talk.proofs.input.gather as G
+use Rattle.talk.proofs.reply.unread as U
+use Rattle.talk.proofs.reply.refused as E
 use Rattle.talk.proofs.text.Text.new as N
 use Rattle.talk.proofs.text.Text.put as T
 use Rattle.talk.proofs.text.Text.put_all as L
 use Rattle.talk.proofs.text.Text.put_hex as X
 use Rattle.talk.proofs.text.Text.put_number as B
+
+pub decimal : Decides I.ended (λ M. I.spec) (λ M. I.clauses)
+decimal M 𝓤 H A m r = record { same = refl; free = λ κs a g. refl; only = λ κs a g g′ x x′ ws ws′. both 𝓤 _ _ _ (λ p q. (p ∙ sym q, refl)) }
+
+pub decimal-within : Decides W.ended (λ M. W.spec) (λ M. W.clauses)
+decimal-within M 𝓤 H A m r = record { same = refl; free = λ κs a g. refl; only = λ κs a g g′ x x′ ws ws′. both 𝓤 _ _ _ (λ p q. (p ∙ sym q, refl)) }
 
 pub start : Decides S.ended (λ M. S.spec) (λ M. S.clauses)
 start M 𝓤 H A m r = record { same = refl; free = λ κs a g. refl; only = λ κs a g g′ x x′ ws ws′. both 𝓤 _ _ _ (λ p q. (p ∙ sym q, refl)) }
@@ -23,6 +33,12 @@ filled M 𝓤 H A m r = record { same = refl; free = λ κs a g. refl; only = λ
 
 pub answered : Decides D.ended (λ M. D.spec) (λ M. D.clauses)
 answered M 𝓤 H A m r = record { same = refl; free = λ κs a g. refl; only = λ κs a g g′ x x′ ws ws′. both 𝓤 _ _ _ (λ p q. (p ∙ sym q, refl)) }
+
+pub unread : Decides U.ended (λ M. U.spec) (λ M. U.clauses)
+unread M 𝓤 H A m r = record { same = refl; free = λ κs a g. refl; only = λ κs a g g′ x x′ ws ws′. both 𝓤 _ _ _ (λ p q. (p ∙ sym q, refl)) }
+
+pub refused : Decides E.ended (λ M. E.spec) (λ M. E.clauses)
+refused M 𝓤 H A m r = record { same = refl; free = λ κs a g. refl; only = λ κs a g g′ x x′ ws ws′. both 𝓤 _ _ _ (λ p q. (p ∙ sym q, refl)) }
 
 pub new : Decides N.ended (λ M. N.spec) (λ M. N.clauses)
 new M 𝓤 H A m r = record { same = refl; free = λ κs a g. refl; only = λ κs a g g′ x x′ ws ws′. both 𝓤 _ _ _ (λ p q. (p ∙ sym q, refl)) }

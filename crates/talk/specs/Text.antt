@@ -4,7 +4,7 @@ use Prim.Native.Nat.{ℕ, _+_, _/_, _%_}
 use mathlib.Core.Bool.{cond, _&&_}
 use mathlib.Core.List.{List, [], _∷_, _++_}
 use lib.Dec.{ltb, leb}
-use lib.ListN.{set, take}
+use lib.ListN.{set, take, replicate}
 use Rattle.talk.specs.declared.text.Text.{Text}
 
 -- one byte more; a full text stays as it is
@@ -15,6 +15,10 @@ put t b = cond (ltb (t .len) 1024) (record { len = t .len + 1; bytes = set (t .b
 unfoldable pub putAll : Text → List ℕ → Text
 putAll t [] = t
 putAll t (b ∷ bs) = putAll (put t b) bs
+
+-- a text of these bytes and no other
+unfoldable pub saying : List ℕ → Text
+saying bs = putAll (record { len = 0; bytes = replicate 1024 0 }) bs
 
 -- what a text holds
 unfoldable pub held : Text → List ℕ

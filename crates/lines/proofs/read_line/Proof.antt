@@ -5,7 +5,7 @@ use mathlib.Core.List.{List}
 use mathlib.Core.Path.{_≡_, sym, ap, _∙_}
 use lib.ListN.{getD}
 use denote.Ref.{now}
-use Rattle.lines.specs.Line.{coordsOf, pressAt, releaseAt}
+use Rattle.lines.specs.Line.{coordsOf, pressAt, releaseAt, saysOf}
 use Rattle.lines.proofs.Laws.{line-tick, line-one, line-parted, line-press, line-release, line-other, line-none, rest-is}
 use Rattle.lines.proofs.read_line.Statement.{statement}
 use Rattle.lines.proofs.read_line.Tie as tie
@@ -23,22 +23,22 @@ second c = c .byte2 .ensures
 returns : tie.Need-returns
 returns c =
     let read = c .before .before in
-    sym (line-tick (line-of read) (c .before .if1 .taken) (sym (first read) ∙ c .if2 .taken))
+    ap saysOf (sym (line-tick (line-of read) (c .before .if1 .taken) (sym (first read) ∙ c .if2 .taken)))
 
 returns-2 : tie.Need-returns-2
 returns-2 c =
     let read = c .before .before in
-    sym (line-one (line-of read) (c .before .if1 .taken) (λ e. c .if2 .left (first read ∙ e)))
+    ap saysOf (sym (line-one (line-of read) (c .before .if1 .taken) (λ e. c .if2 .left (first read ∙ e))))
 
 returns-3 : tie.Need-returns-3
 returns-3 c =
     let read = c .before .before in
-    sym (line-parted (line-of read) (c .before .if1 .left) (λ e. c .if3 .taken (second read ∙ e)))
+    ap saysOf (sym (line-parted (line-of read) (c .before .if1 .left) (λ e. c .if3 .taken (second read ∙ e))))
 
 returns-4 : tie.Need-returns-4
 returns-4 c =
     let one = c .before .before in
-    sym (line-none (line-of (one .before)) (one .if1 .left) (c .if4 .taken))
+    ap saysOf (sym (line-none (line-of (one .before)) (one .if1 .left) (c .if4 .taken)))
 
 returns-5 : tie.Need-returns-5
 returns-5 c =
@@ -46,10 +46,11 @@ returns-5 c =
     let parted = press .before .before in
     let one = parted .before in
     let line = line-of (one .before) in
-    c .press-at .ensures
+    ap saysOf
+    (c .press-at .ensures
     ∙ (ap pressAt (c .before .coords-in .ensures)
     ∙ (ap (λ l. pressAt (coordsOf l)) (rest-is line 2)
-    ∙ sym (line-press line (one .if1 .left) (sym (second (one .before)) ∙ parted .if3 .left) (sym (first (one .before)) ∙ press .if5 .taken))))
+    ∙ sym (line-press line (one .if1 .left) (sym (second (one .before)) ∙ parted .if3 .left) (sym (first (one .before)) ∙ press .if5 .taken)))))
 
 returns-6 : tie.Need-returns-6
 returns-6 c =
@@ -57,16 +58,17 @@ returns-6 c =
     let parted = release .before .before .before in
     let one = parted .before in
     let line = line-of (one .before) in
-    c .release-at .ensures
+    ap saysOf
+    (c .release-at .ensures
     ∙ (ap releaseAt (c .before .coords-in2 .ensures)
     ∙ (ap (λ l. releaseAt (coordsOf l)) (rest-is line 2)
-    ∙ sym (line-release line (one .if1 .left) (sym (second (one .before)) ∙ parted .if3 .left) (sym (first (one .before)) ∙ release .if6 .taken))))
+    ∙ sym (line-release line (one .if1 .left) (sym (second (one .before)) ∙ parted .if3 .left) (sym (first (one .before)) ∙ release .if6 .taken)))))
 
 returns-7 : tie.Need-returns-7
 returns-7 c =
     let one = c .before .before .before .before in
     let read = one .before in
-    sym (line-other (line-of read) (one .if1 .left) (λ e. c .before .if5 .left (first read ∙ e)) (λ e. c .if6 .left (first read ∙ e)))
+    ap saysOf (sym (line-other (line-of read) (one .if1 .left) (λ e. c .before .if5 .left (first read ∙ e)) (λ e. c .if6 .left (first read ∙ e))))
 
 pub read-line-spec : {M : Type 1} → statement M
 read-line-spec =
