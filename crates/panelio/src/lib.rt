@@ -1,22 +1,28 @@
 // The program `panel`: document 01, Bench cases. It reads the image from `table.img`, then lines from standard input, and
-// writes the report after each, `?` for a line that it cannot read, and for a refused image the refusal alone. What a line
-// may say is crate lines'; lines and answers are gathered by crate talk. Assumes nothing.
+// writes the report after each, `?` for a line that it cannot read, and for a refused image the refusal alone. What is done
+// with a line and written for it is promised (`answer`); of reading and writing nothing can be. Assumes nothing.
 mod table;
 
-use codes::KbHidReport;
+use console::write_line;
 use image::Checked;
 use layout::Answered;
 use layout::Layout;
-use layout::Told;
 use libc::STDIN_FILENO;
-use libc::STDOUT_FILENO;
 use lines::Line;
+use lines::answer_line;
+use lines::read_line;
 use table::Taken;
 use talk::Place;
 use talk::Text;
 use talk::front;
 use talk::gather;
+use talk::refused;
+use talk::unread;
 ghost use mathlib.Core.Path.{_≡_};
+ghost use Rattle.layout.specs.Replies.{handed};
+ghost use Rattle.lines.specs.Line.{lineOf};
+ghost use Rattle.talk.specs.Text.{saying};
+ghost use Rattle.panelio.specs.Line.{printed, doneFor, refusalLine};
 
 // The longest line that can be read has nine bytes.
 const LINE: usize = 16;
@@ -35,46 +41,26 @@ struct Stand {
     place: Place,
 }
 
-// Writes a line. Where that fails there is nobody to tell.
-fn write(text: Text) {
-    let whole = text.put(b'\n');
-    let bytes = whole.bytes;
-    io::write_all(STDOUT_FILENO, front(&bytes, whole.len));
-}
-
-// A refusal's number and place.
-fn refused(number: u8, place: usize) -> Text {
-    Text::new()
-        .put_all(b"refused ")
-        .put_number(number as usize)
-        .put(b' ')
-        .put_number(place)
-}
-
-// The report of the codes that a call gave. A call is not refused here: the image is accepted and the layout is one that
-// calls led to. Were it refused, that would be told.
-fn report(told: Told, codes: &[u8]) -> Text {
-    if told.number != 0 {
-        return refused(told.number, told.place);
-    }
-    let report = KbHidReport::from_codes(codes, told.codes);
-    let bytes = report.bytes;
-    Text::new().put_hex(&bytes)
-}
-
-fn report_after(answered: Answered, codes: &[u8]) -> Done {
+// What a call answered, and the codes that it wrote. A call is not refused here: the image is accepted and the layout is one
+// that calls led to. Were it refused, that would be told.
+fn report_after(answered: Answered, codes: &[u8]) -> Done
+    ensures { λ r. ⌜ r ≡ printed (handed answered (now (codes .entry))) ⌝ }
+{
     let layout = answered.layout;
     let answer = answered.answer;
+    let told = answer.told();
     Done {
         layout,
-        text: report(answer.told(), codes),
+        text: answer_line(told.number, told.place, codes, told.codes),
     }
 }
 
 // What a line asks, and its answer.
-fn answer(image: &[u8], layout: Layout, line: &[u8]) -> Done {
+fn answer(image: &[u8], layout: Layout, line: &[u8]) -> Done
+    ensures { λ r. ⌜ r ≡ doneFor (now (image .entry)) layout (lineOf (now (line .entry))) ⌝ }
+{
     let mut codes = [0u8; Layout::STATES];
-    let said = lines::read_line(line);
+    let said = read_line(line);
     match said {
         Line::Key(event) => {
             let answered = layout.event(image, event, &mut codes);
@@ -86,21 +72,17 @@ fn answer(image: &[u8], layout: Layout, line: &[u8]) -> Done {
         }
         Line::Unread => Done {
             layout,
-            text: Text::new().put(b'?'),
+            text: unread(),
         },
     }
 }
 
-// One read of standard input. A read that fails is the end of it.
-fn refill(input: &mut [u8; INPUT], place: Place) -> Place {
-    let got = libc::read(STDIN_FILENO, input);
-    place.filled(io::count(got, input))
-}
-
-// A part of a line, up to its end if that is here; or a read, where all that was here is taken.
+// A part of a line, up to its end if that is here; or a read, where all that was here is taken. A read that fails is the end
+// of the input.
 fn advance(input: &mut [u8; INPUT], line: &mut [u8; LINE], place: Place) -> Place {
     if place.end <= place.at {
-        return refill(input, place);
+        let got = libc::read(STDIN_FILENO, input);
+        return place.filled(io::count(got, input));
     }
     gather(input, line, place)
 }
@@ -109,7 +91,7 @@ fn advance(input: &mut [u8; INPUT], line: &mut [u8; LINE], place: Place) -> Plac
 fn reply(image: &[u8], layout: Layout, line: &[u8]) -> Layout {
     let done = answer(image, layout, line);
     let text = done.text;
-    write(text);
+    write_line(text);
     done.layout
 }
 
@@ -144,11 +126,18 @@ fn answer_all(image: &[u8], input: &mut [u8; INPUT], line: &mut [u8; LINE]) {
     }
 }
 
+// What is printed for an image that the check refuses.
+fn refusal_of(checked: Checked) -> Text
+    ensures { λ r. ⌜ r ≡ saying (refusalLine checked) ⌝ }
+{
+    let told = checked.told();
+    refused(told.number, told.place)
+}
+
 fn with_image(image: &[u8]) {
     let checked = image::check(image);
     let Checked::Accepted(_) = checked else {
-        let told = checked.told();
-        write(refused(told.number, told.place));
+        write_line(refusal_of(checked));
         return;
     };
     let mut input = [0u8; INPUT];

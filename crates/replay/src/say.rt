@@ -2,16 +2,13 @@
 // must not write shows. Assumes nothing.
 use super::words;
 use talk::Text;
+pub use talk::refused;
+pub use talk::unread;
 
 pub const FILL: u8 = 0xEE;
 
 pub fn text(said: &[u8]) -> Text {
     Text::new().put_all(said)
-}
-
-// A line that cannot be read.
-pub fn unread() -> Text {
-    Text::new().put(b'?')
 }
 
 pub fn flag(said: &[u8], yes: bool) -> Text {
@@ -20,13 +17,6 @@ pub fn flag(said: &[u8], yes: bool) -> Text {
 
 pub fn number(said: &[u8], n: usize) -> Text {
     text(said).put_number(n)
-}
-
-// A refusal's number and place.
-pub fn refused(number: u8, place: usize) -> Text {
-    text(b"refused ").put_number(words::wide(number))
-        .put(b' ')
-        .put_number(place)
 }
 
 // Bytes in hex, `-` for none.
