@@ -9,8 +9,8 @@ use debounce::Telling;
 use debounce::Update;
 use debounce::Verdict;
 use refusal::Refusal;
-use talk::Text;
-use talk::front;
+use text::Text;
+use text::front;
 
 pub struct Done {
     pub debouncer: Debouncer,

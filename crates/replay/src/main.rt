@@ -22,10 +22,10 @@ use debounce::Debouncer;
 use keyboard::Keyboard;
 use layout::Layout;
 use libc::STDIN_FILENO;
-use talk::Place;
-use talk::Text;
-use talk::front;
-use talk::gather;
+use text::Place;
+use text::Text;
+use text::front;
+use text::gather;
 use words::Bytes;
 
 // How much one read brings, and the longest line.

@@ -1,9 +1,9 @@
 // Answers that more than one line gives, and what a lent buffer is filled with before a call, so that a byte which the call
 // must not write shows. Assumes nothing.
 use super::words;
-use talk::Text;
-pub use talk::refused;
-pub use talk::unread;
+use text::Text;
+pub use text::refused;
+pub use text::unread;
 
 pub const FILL: u8 = 0xEE;
 
