@@ -2,7 +2,7 @@
 use Prim.Native.Nat.{ℕ, _+_, _*_, _-_, _<_, _≤_}
 use mathlib.Core.Bool.{Bool, true, false, cond, and-false}
 use mathlib.Core.List.{List, [], _∷_}
-use mathlib.Core.Path.{_≡_, refl, ap, _∙_}
+use mathlib.Core.Path.{_≡_, refl, sym, ap, _∙_}
 use native.Mathlib.Numerals.{add-one}
 use native.Mathlib.Omega.{arith}
 use borrow.Author.Tests.{le-leb, lt-leb, leb-true}
@@ -10,7 +10,7 @@ use lib.Dec.{leb}
 use lib.ListN.{length, getD, drop, drop-of-length-le}
 use lib.Seq.{drop-cons}
 use Rattle.lists.specs.Lists.{every}
-use Rattle.text.specs.Number.{isDigit, comesTo, readBehind, numberOf, atMost, numberWithin}
+use Rattle.text.specs.Number.{isDigit, comesTo, readBehind, numberOf, atMost, numberWithin, valuesOf}
 use Rattle.text.specs.declared.digits.Number.{Number}
 use Rattle.text.specs.declared.digits.Number.the-variants.{Value, Unread}
 
@@ -112,3 +112,15 @@ within-small digits largest word = go (leb (length word) digits)
 
 pub within-fits : (digits largest : ℕ) (word : List ℕ) (n : ℕ) → numberWithin digits largest word ≡ Value n → n ≤ largest
 within-fits digits largest word n e = omega (arith, ap valueIn e, within-small digits largest word)
+
+-- what was read is known by its values
+abbrev back : List ℕ → Number
+back [] = Unread
+back (n ∷ ns) = Value n
+
+values-back : (x : Number) → back (valuesOf x) ≡ x
+values-back (Value n) = refl
+values-back Unread = refl
+
+pub number-one : (x y : Number) → valuesOf x ≡ valuesOf y → x ≡ y
+number-one x y e = sym (values-back x) ∙ ap back e ∙ values-back y

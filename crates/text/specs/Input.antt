@@ -3,6 +3,7 @@
 use Prim.Native.Nat.{ℕ, suc, _+_, _-_}
 use mathlib.Core.Bool.{Bool, cond, false, _&&_}
 use mathlib.Core.List.{List, [], _∷_}
+use mathlib.Core.Path.{_≡_}
 use lib.Dec.{eqb, leb, ltb}
 use lib.ListN.{length, take, drop}
 use lib.Seq.{paste}
@@ -24,6 +25,10 @@ countOf size n k = cond (leb (n + k) size) (n + k) (size + 1)
 -- the bytes behind the first n of a buffer, where they fit
 unfoldable pub appended : List ℕ → ℕ → List ℕ → List ℕ
 appended l n bs = cond (leb (n + length bs) (length l)) (paste l n bs (length bs)) l
+
+-- both: the answer, and the buffer at exit
+abbrev pub Appends : List ℕ → ℕ → List ℕ → ℕ → List ℕ → Type 0
+Appends bs n l count after = (count ≡ countOf (length l) n (length bs)) × (after ≡ appended l n bs)
 
 -- a read brought n bytes: none is the end of the input, and of a last line without newline
 unfoldable pub filledOf : Place → ℕ → Place
@@ -53,3 +58,7 @@ gatheredPlace input size p =
 
 unfoldable pub gatheredLine : List ℕ → List ℕ → Place → List ℕ
 gatheredLine input line p = cond (within input p) (appended line (p .held) (take (more input p) (rest input p))) line
+
+-- both: the answer, and the line's buffer at exit
+abbrev pub Gathers : List ℕ → Place → List ℕ → Place → List ℕ → Type 0
+Gathers input p line place after = (place ≡ gatheredPlace input (length line) p) × (after ≡ gatheredLine input line p)

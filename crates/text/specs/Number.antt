@@ -33,3 +33,8 @@ atMost largest Unread = Unread
 
 unfoldable pub numberWithin : ℕ → ℕ → List ℕ → Number
 numberWithin digits largest word = cond (leb (length word) digits) (atMost largest (numberOf word)) Unread
+
+-- the values of what was read: the number; nothing
+abbrev pub valuesOf : Number → List ℕ
+valuesOf (Value n) = n ∷ []
+valuesOf Unread = []

@@ -1,10 +1,10 @@
 // Lines of any length, taken from a lent buffer and gathered in another. A line longer than its buffer says nothing, so
 // of it only that it is too long is kept. Assumes nothing.
-ghost use Prim.Native.Nat.{_+_, _≤_};
+ghost use Prim.Native.Nat.{_≤_};
 ghost use mathlib.Core.Bool.{false};
 ghost use mathlib.Core.Path.{_≡_};
 ghost use lib.ListN.{length};
-ghost use Rattle.text.specs.Input.{lineLength, frontOf, countOf, appended, filledOf, answeredOf, gatheredPlace, gatheredLine};
+ghost use Rattle.text.specs.Input.{lineLength, frontOf, filledOf, answeredOf, Appends, Gathers};
 
 // Where reading stands: the input's buffer is taken up to `at` and filled up to `end`; `held` bytes of the line are here,
 // one more than its buffer has where it does not fit. Whether the line has ended, and the input.
@@ -85,7 +85,7 @@ fn line_length(bytes: &[u8]) -> usize
 // More bytes behind the n that are there, and how many there are now. Where they do not fit nothing is written, and the
 // answer is one more than fits.
 fn append(bytes: &[u8], into: &mut [u8], n: usize) -> usize
-    ensures { λ r. ⌜ (r ≡ countOf (length (now (into .entry))) n (length (now (bytes .entry)))) × (now (into .exit) ≡ appended (now (into .entry)) n (now (bytes .entry))) ⌝ }
+    ensures { λ r. ⌜ Appends (now (bytes .entry)) n (now (into .entry)) r (now (into .exit)) ⌝ }
 {
     if into.len() < n {
         return into.len() + 1;
@@ -103,7 +103,7 @@ fn append(bytes: &[u8], into: &mut [u8], n: usize) -> usize
 
 // The rest of a line, or what is here of it. A place that is not one in these bytes stays as it is.
 pub fn gather(input: &[u8], line: &mut [u8], place: Place) -> Place
-    ensures { λ r. ⌜ (r ≡ gatheredPlace (now (input .entry)) (length (now (line .entry))) place) × (now (line .exit) ≡ gatheredLine (now (input .entry)) (now (line .entry)) place) ⌝ }
+    ensures { λ r. ⌜ Gathers (now (input .entry)) place (now (line .entry)) r (now (line .exit)) ⌝ }
 {
     let at = place.at;
     let end = place.end;
