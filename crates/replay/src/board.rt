@@ -9,8 +9,8 @@ use codes::KbHidReport;
 use keyboard::Clocked;
 use keyboard::Keyboard;
 use keyboard::through;
-use talk::Text;
-use talk::front;
+use text::Text;
+use text::front;
 
 pub struct Done {
     pub keyboard: Keyboard,

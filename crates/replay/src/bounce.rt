@@ -9,8 +9,8 @@ use debounce::Telling;
 use debounce::Update;
 use refusal::Refusal;
 use refusal::Verdict;
-use talk::Text;
-use talk::front;
+use text::Text;
+use text::front;
 
 pub struct Done {
     pub debouncer: Debouncer,

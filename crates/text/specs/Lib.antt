@@ -1,0 +1,4 @@
+pub mod Input
+pub mod Number
+pub mod Reply
+pub mod Text
