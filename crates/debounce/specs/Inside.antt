@@ -27,9 +27,9 @@ abbrev pub eventsIn : Step → List Event
 eventsIn s =
     cond (s .changed) (changes (s .debouncer .columns) 0 (take (switches (s .debouncer)) (s .debouncer .new)) (take (switches (s .debouncer)) (s .debouncer .cur))) []
 
--- a buffer with room for an event of each switch, and sizes whose product is small
+-- legal sizes, and a buffer with room for an event of each switch
 abbrev pub RoomFor : Debouncer → ℕ → Type 0
-RoomFor d room = (0 < d .columns) × (d .columns ≤ 16) × (switches d ≤ 128) × (3 * switches d ≤ room)
+RoomFor d room = (d .rows ≤ 8) × (0 < d .columns) × (d .columns ≤ 16) × (3 * switches d ≤ room)
 
 -- events more, behind so many that stand in a buffer: how many there are then, and the buffer then
 abbrev pub AddedTo : List ℕ → ℕ → List Event → ℕ → List ℕ → Type 0

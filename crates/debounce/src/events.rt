@@ -2,6 +2,7 @@
 // Every number here is small: a place is below 128, and 3 bytes an event come to 384.
 // Assumes nothing.
 use super::Step;
+use super::verdicts::switches;
 use event::Event;
 ghost use mathlib.Core.Path.{_≡_};
 ghost use Prim.Native.Nat.{_+_, _*_, _≤_, _<_};
@@ -72,6 +73,6 @@ pub(crate) fn tell_step(step: Step, out: &mut [u8]) -> usize
     let debouncer = step.debouncer;
     let before = debouncer.new;
     let after = debouncer.cur;
-    let n = debouncer.rows * debouncer.columns;
+    let n = switches(debouncer.rows, debouncer.columns);
     tell(before, after, n, debouncer.columns, out)
 }

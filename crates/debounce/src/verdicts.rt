@@ -1,5 +1,4 @@
-// Whether a call is refused, and the State check: document 01, "Refusal numbers", 10 to 13. Rows and columns are any numbers
-// until they are tested; they are multiplied only then.
+// Whether a call is refused, and the State check: document 01, "Refusal numbers", 10 to 13.
 // Assumes nothing.
 use super::Debouncer;
 use super::picture::is_picture;
@@ -7,6 +6,7 @@ use super::picture::is_scan;
 use refusal::Refusal;
 use refusal::Verdict;
 ghost use mathlib.Core.Path.{_≡_};
+ghost use Prim.Native.Nat.{_*_, _≤_};
 ghost use lib.ListN.{take};
 ghost use Rattle.debounce.specs.Picture.{padded};
 ghost use Rattle.debounce.specs.Calls.{sizesGood, bounceGood, stateGood, makingVerdict, updateVerdict, eventsVerdict};
@@ -29,6 +29,14 @@ fn bounce_good(rows: usize, columns: usize, nb_bounce: u16) -> bool
     sizes_good(rows, columns) && nb_bounce < 65535
 }
 
+// The number of switches, at most 128 on a machine of any width: only sizes that are tested are multiplied.
+pub(crate) fn switches(rows: usize, columns: usize) -> usize
+    requires { ⌜ (rows ≤ 8) × (columns ≤ 16) ⌝ }
+    ensures { λ r. ⌜ (r ≡ rows * columns) × (r ≤ 128) ⌝ }
+{
+    rows * columns
+}
+
 pub(crate) fn making_verdict(
     rows: usize,
     columns: usize,
@@ -42,7 +50,7 @@ pub(crate) fn making_verdict(
     if !bounce_good(rows, columns, nb_bounce) {
         return Verdict::Refused(Refusal::Bounce, 0);
     }
-    if !is_scan(start, places, rows * columns) {
+    if !is_scan(start, places, switches(rows, columns)) {
         return Verdict::Refused(Refusal::Scan, 0);
     }
     Verdict::Fine
@@ -59,7 +67,7 @@ impl Debouncer {
         if self.nb_bounce < self.since {
             return false;
         }
-        let n = self.rows * self.columns;
+        let n = switches(self.rows, self.columns);
         let cur = self.cur;
         let new = self.new;
         is_picture(cur, n) && is_picture(new, n)
@@ -72,7 +80,7 @@ impl Debouncer {
         if !self.state_good() {
             return Verdict::Refused(Refusal::State, 0);
         }
-        if !is_scan(scan, places, self.rows * self.columns) {
+        if !is_scan(scan, places, switches(self.rows, self.columns)) {
             return Verdict::Refused(Refusal::Scan, 0);
         }
         Verdict::Fine
@@ -85,7 +93,7 @@ impl Debouncer {
         let verdict = self.update_verdict(scan, places);
         match verdict {
             Verdict::Fine => {
-                if room < 3 * (self.rows * self.columns) {
+                if room < 3 * switches(self.rows, self.columns) {
                     return Verdict::Refused(Refusal::Room, 0);
                 }
                 Verdict::Fine

@@ -36,7 +36,7 @@ tell-step-requires c κs =
     let stepped = c .before .before in
     let f = events-fine _ _ _ (fine (stepped .before)) in
     let sizes = f .0 .sizes in
-    rw (stepped .step .ensures) (sizes .some-columns, sizes .few-columns, sizes .few, f .1)
+    rw (stepped .step .ensures) (sizes .few-rows, sizes .some-columns, sizes .few-columns, f .1)
 
 returns : tie.Need-returns
 unfolding ifFine eventsOf
