@@ -2,33 +2,34 @@
 -- Assumes nothing.
 use Prim.Native.Nat.{ℕ, _≤_, _<_}
 use mathlib.Core.Path.{_≡_, refl, ap, _∙_}
-use mathlib.Core.Bool.{Bool, true, false}
+use mathlib.Core.Bool.{true}
 use mathlib.Core.List.{List, [], _++_}
 use native.Mathlib.Omega.{arith}
-use borrow.Author.Tests.{leb-true}
-use lib.Dec.{eqb, leb}
+use lib.Dec.{eqb}
 use lib.ListN.{length, getD}
 use Rattle.lists.specs.Lists.{every}
 use Rattle.lists.proofs.Laws.{both-true}
 use Rattle.codes.specs.Report.{withCodes, reportOf}
-use Rattle.refusal.specs.declared.Refusal.{Refusal}
+use Rattle.refusal.specs.Verdict.{orElse}
+use Rattle.refusal.specs.declared.Verdict.{Verdict}
+use Rattle.refusal.specs.declared.Verdict.the-variants.{Fine, Refused}
+use Rattle.refusal.proofs.Said.{number-some}
 use Rattle.image.specs.Check.{checkOf}
 use Rattle.image.specs.Table.{tableOf, timesOf}
 use Rattle.image.specs.declared.words.Shape.{Shape}
 use Rattle.image.specs.declared.rules.Checked.{Checked}
-use Rattle.image.specs.declared.rules.Checked.the-variants.{Accepted, Refused}
+use Rattle.image.specs.declared.rules.Checked.the-variants.{Accepted}
+use Rattle.image.specs.declared.rules.Checked.the-variants as checked
 use Rattle.image.proofs.Accepted.{accepted}
 use Rattle.layout.specs.Model.{Model, Done, fresh}
 use Rattle.layout.specs.Steps.{event, tick, codes}
 use Rattle.layout.specs.Packed.{waitingIn, pack, unpack}
-use Rattle.layout.specs.State.{stateGood}
 use Rattle.layout.specs.Notes.{actedOn}
 use Rattle.layout.specs.Calls.{judgedOf, answerOf, toldOf, replied}
-use Rattle.image.proofs.Said.{number-some}
 use Rattle.layout.specs.declared.layout.Layout.{Layout}
-use Rattle.layout.specs.declared.layout.Judged.{Judged}
 use Rattle.layout.specs.Reach.{Starts, FreshStarts}
 use Rattle.layout.proofs.Reach.{fresh-starts}
+use Rattle.layout.proofs.Calls.{judged-fine}
 use Rattle.demands.specs.Runs.{Tick, Enter, arrived}
 use Rattle.demands.specs.Public.{Lent, callsOf, ticksOn, Roomy, reply, NoneRefused}
 use Rattle.demands.specs.Demand3.{did, boundOf, AtRest, Demand3, OfImages, OfFresh, Given, Heard}
@@ -78,21 +79,18 @@ pub of-fresh : OfFresh
 unfolding OfFresh OfImages FreshStarts
 of-fresh img shape bytes e calls room = of-images img shape bytes e fresh (fresh-starts img shape e) calls room
 
--- a rule that is kept
-heard-rule : (test : Bool) (r : Refusal) (rest : Judged) (done : Done) → eqb (toldOf (answerOf (rule test r rest) done) .number) 0 ≡ true → (test ≡ true) × (eqb (toldOf (answerOf rest done) .number) 0 ≡ true)
-unfolding rule answerOf
-heard-rule true r rest done h = (refl, h)
-heard-rule false r rest done h = let z = number-some r in (cc, cc)
+-- an answer whose number is 0 is not refused
+heard-fine : (v : Verdict) (done : Done) → eqb (toldOf (answerOf v done) .number) 0 ≡ true → v ≡ Fine
+unfolding answerOf
+heard-fine Fine done h = refl
+heard-fine (Refused r place) done h = let z = number-some r in cc
 
-heard-by : (x : Checked) (img : List ℕ) (layout : Layout) (buffer : List ℕ) (done : Done) → checkOf img ≡ x → eqb (toldOf (answerOf (judgedBy x img layout (length buffer)) done) .number) 0 ≡ true → Given img buffer
-unfolding judgedBy answerOf
-heard-by (Accepted s) img layout buffer done e h =
-    let a = heard-rule (stateGood img layout) _ _ done h in
-    let b = heard-rule (leb 64 (length buffer)) _ _ done (a .1) in
-    record { shape = s; accepted = e; room = leb-true 64 (length buffer) (b .0) }
-heard-by (Refused r place) img layout buffer done e h = let y = number-some r in let z : _≡_ {A = ℕ} 0 1 = cc in absurd (omega arith)
+heard-by : (x : Checked) (img : List ℕ) (layout : Layout) (buffer : List ℕ) → checkOf img ≡ x → judgedOf img layout (length buffer) ≡ Fine → Given img buffer
+unfolding judgedOf orElse
+heard-by (checked.Accepted s) img layout buffer e h = record { shape = s; accepted = e; room = judged-fine img layout (length buffer) h .2 }
+heard-by (checked.Refused r place) img layout buffer e h = let y = rw e at h in let z : _≡_ {A = ℕ} 0 1 = cc in absurd (omega arith)
 
 pub heard : Heard
-unfolding Heard NoneRefused every reply replied judgedOf
-heard img Tick layout buffer h = heard-by (checkOf img) img layout buffer (tick (tableOf img) (unpack img layout)) refl (both-true _ _ h .0)
-heard img (Enter x) layout buffer h = heard-by (checkOf img) img layout buffer (event (tableOf img) x (unpack img layout)) refl (both-true _ _ h .0)
+unfolding Heard NoneRefused every reply replied
+heard img Tick layout buffer h = heard-by (checkOf img) img layout buffer refl (heard-fine _ (tick (tableOf img) (unpack img layout)) (both-true _ _ h .0))
+heard img (Enter x) layout buffer h = heard-by (checkOf img) img layout buffer refl (heard-fine _ (event (tableOf img) x (unpack img layout)) (both-true _ _ h .0))

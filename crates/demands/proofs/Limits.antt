@@ -5,6 +5,8 @@ use mathlib.Core.Path.{_≡_, refl}
 use mathlib.Core.List.{List}
 use native.Mathlib.Omega.{arith}
 use lib.ListN.{length}
+use Rattle.refusal.specs.declared.Verdict.{Verdict}
+use Rattle.refusal.specs.declared.Verdict.the-variants.{Fine, Refused}
 use Rattle.image.specs.Sound.{Sound}
 use Rattle.image.specs.Table.{tableOf}
 use Rattle.layout.specs.Model.{Model, Done}
@@ -14,9 +16,7 @@ use Rattle.layout.specs.Notes.{notedMarks, actedOn, decisions}
 use Rattle.layout.specs.Calls.{judgedOf, answerOf, replied}
 use Rattle.layout.specs.Limits.{Limits}
 use Rattle.layout.specs.declared.layout.Layout.{Layout}
-use Rattle.layout.specs.declared.layout.Judged.{Judged}
-use Rattle.layout.specs.declared.layout.Judged.the-variants as judged
-use Rattle.layout.proofs.Calls.{ready}
+use Rattle.layout.proofs.Calls.{judged-fine}
 use Rattle.layout.proofs.Limits.{limited}
 use Rattle.layout.proofs.Noted.{noted-acted, noted-all}
 use Rattle.demands.specs.Runs.{Tick, Enter}
@@ -29,11 +29,11 @@ module _ (image : List ℕ) (f : Model → Done) (most : ℕ) (two : most ≤ 2)
   unfolding marksIf replied answerOf notedMarks actedOn decisions
   named = by (judgedOf image layout (length buffer)) refl
     where
-      by : (j : Judged) → judgedOf image layout (length buffer) ≡ j → let ms = marksIf (judgedOf image layout (length buffer)) (f (unpack image layout)) in Limits most ms × Names ms (replied image f layout buffer)
-      by (judged.Fine n) e =
-          let x = within (ready image layout (length buffer) n e .sound) in
+      by : (j : Verdict) → judgedOf image layout (length buffer) ≡ j → let ms = marksIf (judgedOf image layout (length buffer)) (f (unpack image layout)) in Limits most ms × Names ms (replied image f layout buffer)
+      by Fine e =
+          let x = within (judged-fine image layout (length buffer) e .0) in
           rw e (x, record { acted = noted-acted (f (unpack image layout) .marks) (x .acts); decided = noted-all (f (unpack image layout) .marks) (omega (arith, x .decides)) })
-      by (judged.Refused r place) e = rw e (record { acts = omega arith; decides = omega arith }, record { acted = refl; decided = refl })
+      by (Refused r place) e = rw e (record { acts = omega arith; decides = omega arith }, record { acted = refl; decided = refl })
 
 pub of-calls : OfCalls
 unfolding OfCalls step reply

@@ -17,7 +17,8 @@ use Rattle.image.specs.Words.{wordAt, cellOf, fieldOf, entryOf, entries, shapeO
 use Rattle.image.specs.Record.{actionOf, actionAt, codesIn, childrenIn, listEnd, cellAt}
 use Rattle.image.specs.Tree.{KeyCode, named, meaning, trees, tree, open?, someOpen, shutButLast, settled, weight, longest}
 use Rattle.image.specs.Table.{treeIn, tableOf, longestBelow, timesOf}
-use Rattle.image.specs.Check.{rule, orElse, firstFault, within, countsGood, offsetsGood, headerGood, headFault, cellFault, form, formGood, recordFault, bodyFault, faultOf, answer, checkOf}
+use Rattle.refusal.specs.Verdict.{rule, orElse, firstFault}
+use Rattle.image.specs.Check.{within, countsGood, offsetsGood, headerGood, headFault, cellFault, form, formGood, recordFault, bodyFault, faultOf, answer, checkOf}
 use Rattle.image.specs.declared.rules.Checked.the-variants.{Accepted}
 use Rattle.layout.specs.Model.{Waits, Acted, Begun, Decided, fresh, same}
 use Rattle.layout.specs.Actions.{push, pushCodes, find, verdict, doAction, decided}
@@ -99,7 +100,7 @@ reached =
     record {
       asked = asked 1 (omega arith);
       most = bound-z 1 16 seventeen (computed .queued);
-      before = λ q. let z : _≡_ {A = ℕ} 0 1 = cc (ap (λ (l : Layout). l .waiting) (left-z 1 seventeen 32), computed .before, q .idle) in omega arith;
+      before = λ q. let z : _≡_ {A = ℕ} 0 1 = cc (ap (λ (l : Layout). l .active .waiting) (left-z 1 seventeen 32), computed .before, q .idle) in omega arith;
       at = rw (left-z 1 seventeen 33) (at-rest _ (computed .at));
     }
 

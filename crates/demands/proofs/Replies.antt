@@ -7,6 +7,8 @@ use borrow.Author.Tests.{le-leb}
 use lib.ListN.{length, drop, replicate}
 use lib.Seq.{take-at}
 use Rattle.lists.specs.Lists.{every, laid}
+use Rattle.refusal.specs.Verdict.{rule, orElse}
+use Rattle.refusal.specs.declared.Verdict.the-variants.{Fine}
 use Rattle.image.specs.Check.{checkOf}
 use Rattle.image.specs.Sound.{Sound}
 use Rattle.image.specs.Table.{tableOf}
@@ -19,7 +21,6 @@ use Rattle.layout.specs.Packed.{pack}
 use Rattle.layout.specs.Notes.{noNotes, noted}
 use Rattle.layout.specs.Calls.{Reply, replied, judgedOf, answerOf, layoutAfter, buffered}
 use Rattle.layout.specs.Reach.{Starts}
-use Rattle.layout.specs.declared.layout.Judged.the-variants as judged
 use Rattle.layout.proofs.Lawful.{Lawful, event-lawful, tick-lawful}
 use Rattle.layout.proofs.Reach.{lawful-good, unpack-pack, starts-lawful}
 use Rattle.demands.specs.Runs.{Call, Tick, Enter, call, run, ticks}
@@ -41,8 +42,8 @@ module _ (img : List ℕ) (shape : Shape) (e : checkOf img ≡ Accepted shape) w
   sound : Sound img
   sound = accepted img shape e .1
 
-  fine : (l : Model) (room : ℕ) → Lawful img l → 64 ≤ room → judgedOf img (pack l) room ≡ judged.Fine (shape .layers)
-  unfolding judgedOf judgedBy rule
+  fine : (l : Model) (room : ℕ) → Lawful img l → 64 ≤ room → judgedOf img (pack l) room ≡ Fine
+  unfolding judgedOf orElse rule
   fine l room w h = rw (e, lawful-good img l w, le-leb 64 room h)
 
   stays-lawful : (k : Call) (l : Model) → Lawful img l → Lawful img (call (tableOf img) k l .layout)

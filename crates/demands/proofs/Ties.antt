@@ -38,7 +38,7 @@ use Rattle.layout.proofs.Reach.{reached-packed, unpack-pack}
 use Rattle.demands.specs.Runs.{Call, Tick, Enter, call, run, ticks}
 use Rattle.demands.specs.Public.{Lent, callsOf, ticksOn, Roomy, replies, lastLayout}
 use Rattle.demands.specs.Demand3.{AtRest}
-use Rattle.demands.specs.Ties.{decidedBy, Keyed, pressOn, Live, LiveTie, pressAndRelease, Queued, QueuedTie}
+use Rattle.demands.specs.Ties.{decidedBy, Keyed, pressOn, Live, LiveTie, pressAndRelease, QueuedWay, QueuedTie}
 use Rattle.demands.proofs.Calls.{same-refl}
 use Rattle.demands.proofs.Answers.{names-decisions}
 use Rattle.demands.proofs.OnLists.{run-append}
@@ -229,7 +229,7 @@ module _ (img : List ℕ) (shape : Shape) (e : checkOf img ≡ Accepted shape) (
   -- the tick after a wait that ended, with a press and its release g ticks apart in the queue
   tie : (c : Coord) (g m : ℕ) → g + suc m < 65535 → l .waiting ≡ Idle
       → l .queue ≡ olderBy (suc m) (olderBy g (newOne (Press (c .i) (c .j)))) ∷ olderBy (suc m) (newOne (Release (c .i) (c .j))) ∷ []
-      → (timeout : ℕ) → Keyed img (pack l) c timeout → Queued img (pack l) c g timeout
+      → (timeout : ℕ) → Keyed img (pack l) c timeout → QueuedWay img (pack l) c g timeout
   unfolding Roomy run call ticks
   tie c g m few idle queue timeout key =
       let p = newOne (Press (c .i) (c .j)) in
@@ -262,7 +262,7 @@ module _ (img : List ℕ) (shape : Shape) (e : checkOf img ≡ Accepted shape) (
   behind : (d : Coord) (left n : ℕ) (hold tap : Action) → l .waiting ≡ Waits d left n hold tap → l .queue ≡ [] → (c : Coord) → same d c ≡ false
       → (p : List ℕ) (gap : List (List ℕ)) (r : List ℕ) (rest : List (List ℕ)) → Roomy (pressAndRelease c p gap r rest) → left ≡ length gap + length rest → 1 ≤ length rest → left < 65535
       → let after = lastLayout (pack l) (replies img (pressAndRelease c p gap r rest) (pack l)) in
-      (timeout : ℕ) → Keyed img after c timeout → Queued img after c (length gap) timeout
+      (timeout : ℕ) → Keyed img after c timeout → QueuedWay img after c (length gap) timeout
   behind d left n hold tap ew eq c apart p gap r [] roomy sum one few timeout key = absurd (omega arith)
   behind d left n hold tap ew eq c apart p gap r (b ∷ bs) roomy sum one few timeout key =
       let t = tableOf img in
@@ -280,7 +280,7 @@ module _ (img : List ℕ) (shape : Shape) (e : checkOf img ≡ Accepted shape) (
       let after : lastLayout (pack l) (replies img ks (pack l)) ≡ pack k = tied img shape e ks l w roomy .layout ∙ ap pack is in
       let calm : Calm (Waits d left n hold tap) = subst Calm (ap (λ (x : Model). x .waiting) (unpack-pack img l w) ∙ ew) (calm-held img (waitsIn (pack l)) (accepted img shape e .1)) in
       let y = queues t l d n hold tap c apart (calm .0) g m in
-      subst (λ (lay : Layout). Queued img lay c g timeout) (sym after)
+      subst (λ (lay : Layout). QueuedWay img lay c g timeout) (sym after)
       (tie img shape e k lawful c g m (omega arith) (y .1) (y .0) timeout (subst (λ (lay : Layout). Keyed img lay c timeout) after key))
 
 pub queued-tie : QueuedTie

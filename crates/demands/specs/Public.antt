@@ -1,4 +1,4 @@
--- Runs of the layout's public calls. What a call hands back is `Rattle.layout.specs.Replies`, which the contracts of `event`
+-- Runs of the layout's public calls. What a call hands back is `Rattle.layout.specs.Calls`, which the contracts of `event`
 -- and `tick` cite: each compiled call meets its contract, and the contract allows one reply alone
 -- (crates/layout/proofs/Unique.antt). In a run each call is on the layout that the one before it handed back, over one image,
 -- and each with a buffer of its own. What it may start from is `Starts` of crates/layout/specs/Reach.antt.
@@ -10,6 +10,8 @@ use mathlib.Core.List.{List, [], _∷_, _++_, map}
 use lib.Dec.{eqb}
 use lib.ListN.{length, take}
 use Rattle.lists.specs.Lists.{every}
+use Rattle.refusal.specs.declared.Verdict.{Verdict}
+use Rattle.refusal.specs.declared.Verdict.the-variants.{Fine, Refused}
 use Rattle.image.specs.Table.{tableOf}
 use Rattle.layout.specs.Model.{Model, Mark, Done}
 use Rattle.layout.specs.Steps.{event, tick}
@@ -17,8 +19,6 @@ use Rattle.layout.specs.Packed.{pack, unpack}
 use Rattle.layout.specs.Calls.{judgedOf, Reply, eventReply, tickReply}
 use Rattle.layout.specs.declared.notes.Notes.{Notes}
 use Rattle.layout.specs.declared.layout.Layout.{Layout}
-use Rattle.layout.specs.declared.layout.Judged.{Judged}
-use Rattle.layout.specs.declared.layout.Judged.the-variants as judged
 use Rattle.demands.specs.Runs.{Call, Tick, Enter}
 
 -- a call and the buffer that it is lent
@@ -57,9 +57,9 @@ unfoldable pub step : List ℕ → Call → Layout → Done
 step image Tick layout = tick (tableOf image) (unpack image layout)
 step image (Enter e) layout = event (tableOf image) e (unpack image layout)
 
-unfoldable pub marksIf : Judged → Done → List Mark
-marksIf (judged.Fine layers) done = done .marks
-marksIf (judged.Refused refusal place) done = []
+unfoldable pub marksIf : Verdict → Done → List Mark
+marksIf Fine done = done .marks
+marksIf (Refused refusal place) done = []
 
 abbrev pub didBy : List ℕ → Call → Layout → List ℕ → List Mark
 didBy image k layout buffer = marksIf (judgedOf image layout (length buffer)) (step image k layout)

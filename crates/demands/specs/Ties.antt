@@ -60,7 +60,7 @@ pressAndRelease c p gap r rest =
     record { call = Enter (Press (c .i) (c .j)); buffer = p } ∷ (ticksOn gap ++ (record { call = Enter (Release (c .i) (c .j)); buffer = r } ∷ ticksOn rest))
 
 -- the next tick acts on the press, and the release behind it decides: tap at the tie, hold one tick past it
-pub record Queued (image : List ℕ) (layout : Layout) (c : Coord) (gap timeout : ℕ) : Type 0 where
+pub record QueuedWay (image : List ℕ) (layout : Layout) (c : Coord) (gap timeout : ℕ) : Type 0 where
   pub at : (b : List ℕ) → 64 ≤ length b → gap ≡ timeout → decidedBy image layout (ticksOn (b ∷ [])) ≡ (c, Tap) ∷ []
   pub past : (b : List ℕ) → 64 ≤ length b → gap ≡ suc timeout → decidedBy image layout (ticksOn (b ∷ [])) ≡ (c, Hold) ∷ []
 
@@ -74,4 +74,4 @@ QueuedTie =
     → (p : List ℕ) (gap : List (List ℕ)) (r : List ℕ) (rest : List (List ℕ)) → Roomy (pressAndRelease c p gap r rest)
     → left ≡ length gap + length rest → 1 ≤ length rest → left < 65535
     → let after = lastLayout layout (replies image (pressAndRelease c p gap r rest) layout) in
-    (timeout : ℕ) → Keyed image after c timeout → Queued image after c (length gap) timeout
+    (timeout : ℕ) → Keyed image after c timeout → QueuedWay image after c (length gap) timeout

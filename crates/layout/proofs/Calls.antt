@@ -52,15 +52,21 @@ fine-sound : (x : Checked) (img : List ℕ) → checkOf img ≡ x → verdictIn 
 fine-sound (checked.Accepted s) img c e = accepted img s c .1
 fine-sound (checked.Refused r place) img c e = let z : _≡_ {A = ℕ} 0 1 = cc in absurd (omega arith)
 
-pub opened : (img : List ℕ) (lay : Layout) (room : ℕ) (v : Verdict) → length (lay .active .states) ≡ 64 → length (lay .queue .stacked) ≡ 16 → v ≡ judgedOf img lay room → v ≡ Fine → Opened img lay room
+-- a call that is not refused has an accepted image, a layout that State is not given for, and room for its codes
+pub judged-fine : (img : List ℕ) (lay : Layout) (room : ℕ) → judgedOf img lay room ≡ Fine → Sound img × (stateGood img lay ≡ true) × (64 ≤ room)
 unfolding judgedOf
-opened img lay room v e f j g =
-    let fine = sym j ∙ g in
-    let a = or-fine (verdictIn (checkOf img)) _ fine in
+judged-fine img lay room e =
+    let a = or-fine (verdictIn (checkOf img)) _ e in
     let b = rule-fine (stateGood img lay) refusal.State 0 _ (a .1) in
     let c = rule-fine (leb 64 room) refusal.Room 0 _ (b .1) in
-    let good = legal img lay (b .0) in
-    record { fine = fine; sound = fine-sound (checkOf img) img refl (a .0); roomy = leb-true 64 room (c .0); tidy = legal-tidy img lay good e; lined = legal-lined img lay good f }
+    (fine-sound (checkOf img) img refl (a .0), b .0, leb-true 64 room (c .0))
+
+pub opened : (img : List ℕ) (lay : Layout) (room : ℕ) (v : Verdict) → length (lay .active .states) ≡ 64 → length (lay .queue .stacked) ≡ 16 → v ≡ judgedOf img lay room → v ≡ Fine → Opened img lay room
+opened img lay room v e f j g =
+    let fine = sym j ∙ g in
+    let a = judged-fine img lay room fine in
+    let good = legal img lay (a .1) in
+    record { fine = fine; sound = a .0; roomy = a .2; tidy = legal-tidy img lay good e; lined = legal-lined img lay good f }
 
 map-slots : (l : List Slot) → map (λ (s : State). record { state = s }) (map (λ (s : Slot). s .state) l) ≡ l
 map-slots [] = refl

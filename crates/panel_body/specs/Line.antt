@@ -5,7 +5,7 @@ use mathlib.Core.List.{List}
 use lib.ListN.{take, replicate}
 use Rattle.image.specs.Check.{toldOf}
 use Rattle.image.specs.declared.rules.Checked.{Checked}
-use Rattle.layout.specs.Replies.{Reply, eventReply, tickReply}
+use Rattle.layout.specs.Calls.{Reply, eventReply, tickReply}
 use Rattle.layout.specs.declared.layout.Layout.{Layout}
 use Rattle.text.specs.Text.{saying}
 use Rattle.text.specs.Reply.{unreadLine, refusedLine}

@@ -19,7 +19,7 @@ use text::gather;
 use text::refused;
 use text::unread;
 ghost use mathlib.Core.Path.{_≡_};
-ghost use Rattle.layout.specs.Replies.{handed};
+ghost use Rattle.layout.specs.Calls.{handed};
 ghost use Rattle.panel_line.specs.Line.{lineOf};
 ghost use Rattle.text.specs.Text.{saying};
 ghost use Rattle.panel_body.specs.Line.{printed, doneFor, refusalLine};
