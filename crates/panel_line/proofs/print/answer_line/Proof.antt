@@ -3,7 +3,7 @@ use borrow.Author.Needs.{needs}
 use mathlib.Core.Path.{ap, sym, _∙_}
 use lib.ListN.{take}
 use denote.Ref.{now}
-use Rattle.text.specs.Text.{putAll, hexOf, saying}
+use Rattle.text.specs.Text.{saying}
 use Rattle.panel_line.proofs.Laws.{answer-report, answer-refused}
 use Rattle.panel_line.proofs.print.answer_line.Statement.{statement}
 use Rattle.panel_line.proofs.print.answer_line.Tie as tie
