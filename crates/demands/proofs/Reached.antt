@@ -24,7 +24,6 @@ use Rattle.layout.specs.Model.{Waits, Acted, Begun, Decided, fresh, same}
 use Rattle.layout.specs.Actions.{push, pushCodes, find, verdict, doAction, decided}
 use Rattle.layout.specs.Steps.{held, sum, current, pressed, release, act, into, released, overflow, entered, event, ticked, tick}
 use Rattle.layout.specs.declared.notes.Way.the-variants.{Tap}
-use Rattle.layout.specs.declared.layout.Layout.{Layout}
 use Rattle.demands.specs.Runs.{Call, call, run, ticks, arrived}
 use Rattle.demands.specs.Words.{downAfter, AllReleased}
 use Rattle.demands.specs.Demand3.{boundOf, left, Demand3, OfFresh}
@@ -32,7 +31,7 @@ use Rattle.demands.specs.Public.{Lent, callsOf, ticksOn, lentAll, Roomy}
 use Rattle.layout.specs.Packed.{pack}
 use Rattle.demands.specs.Z.{zOf, lent}
 use Rattle.demands.specs.Reached.{seventeen, tapped, Asked, Reached, Met}
-use Rattle.layout.specs.Reach.{FreshStarts}
+use Rattle.layout.specs.Reach.{waitsIn, FreshStarts}
 use Rattle.layout.proofs.Reach.{fresh-starts}
 use Rattle.demands.proofs.Legal.{Quiet}
 use Rattle.demands.proofs.OnLists.{drain, queuedAfter}
@@ -100,7 +99,7 @@ reached =
     record {
       asked = asked 1 (omega arith);
       most = bound-z 1 16 seventeen (computed .queued);
-      before = λ q. let z : _≡_ {A = ℕ} 0 1 = cc (ap (λ (l : Layout). l .active .waiting) (left-z 1 seventeen 32), computed .before, q .idle) in omega arith;
+      before = λ q. let z : _≡_ {A = ℕ} 0 1 = cc (ap waitsIn (left-z 1 seventeen 32), computed .before, q .idle) in omega arith;
       at = rw (left-z 1 seventeen 33) (at-rest _ (computed .at));
     }
 

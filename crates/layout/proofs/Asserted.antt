@@ -15,13 +15,13 @@ use Rattle.image.specs.Legal.{closed, closedAll, Times, holdable, isEnd, legal,
 use Rattle.image.specs.Sound.{Sound}
 use Rattle.image.specs.Table.{Table, tableOf, timesOf}
 use Rattle.image.proofs.Accepted.{accepted}
-use Rattle.layout.specs.Model.{Queued, Model, Waiting, Idle, Waits, ageOf, withWaiting, withQueue}
+use Rattle.layout.specs.Model.{Queued, Model, Waiting, Idle, Waits, ageOf, fresh, withWaiting, withQueue}
 use Rattle.layout.specs.Actions.{isRelease, find, doAction, chosen, decided}
 use Rattle.layout.specs.Steps.{current, held, pressed, into, intoHold, appended, entered, older}
 use Rattle.layout.specs.Packed.{unpack}
 use Rattle.layout.specs.State.{falling}
 use Rattle.layout.specs.Reach.{waitsIn}
-use Rattle.layout.specs.Asserted.{Fact, NothingWaits, NotBelow, RunsSo, AllRunSo, ActSo, IntoSo, OverflowSo, EnteredSo, ReleasedSo, EventSo, TickedSo, TickSo, CallsSo, NeverWaits, NeverBelow}
+use Rattle.layout.specs.Asserted.{Fact, NothingWaits, NotBelow, RunsSo, AllRunSo, ActSo, IntoSo, OverflowSo, EnteredSo, ReleasedSo, EventSo, TickedSo, TickSo, CallsSo, NeverWaits, FirstYounger, NeverBelow}
 use Rattle.layout.specs.declared.notes.Way.{Way}
 use Rattle.layout.specs.declared.notes.Way.the-variants.{Tap, Hold}
 use Rattle.layout.specs.declared.queue.Found.{Found}
@@ -156,17 +156,21 @@ not-below j k None l h x = tt
 not-below j k (At age) l h x = omega arith
 
 -- in a queue whose ages fall, the first release is no older than what stands before it
-pub first-younger : (q : Queued) (qs : List Queued) (c : Coord) (l : Model) → falling (q ∷ qs) ≡ true → NotBelow (ageOf q) (find c qs) l
+younger : (q : Queued) (qs : List Queued) (c : Coord) (l : Model) → falling (q ∷ qs) ≡ true → NotBelow (ageOf q) (find c qs) l
 unfolding falling find
-first-younger q [] c l h = tt
-first-younger q (r ∷ qs) c l h =
+younger q [] c l h = tt
+younger q (r ∷ qs) c l h =
     let b = both-true (leb (ageOf r) (ageOf q)) (falling (r ∷ qs)) h in
     let le = leb-true (ageOf r) (ageOf q) (b .0) in
-    go (isRelease c (r .event)) le (not-below (ageOf r) (ageOf q) (find c qs) l le (first-younger r qs c l (b .1)))
+    go (isRelease c (r .event)) le (not-below (ageOf r) (ageOf q) (find c qs) l le (younger r qs c l (b .1)))
   where
     go : (t : Bool) → ageOf r ≤ ageOf q → NotBelow (ageOf q) (find c qs) l → NotBelow (ageOf q) (cond t (At (ageOf r)) (find c qs)) l
     go true le x = le
     go false le x = x
+
+pub first-younger : FirstYounger
+unfolding FirstYounger
+first-younger q qs h c age e = subst (λ (f : Found). NotBelow (ageOf q) f fresh) e (younger q qs c fresh h)
 
 pub never-below : NeverBelow
 unfolding NeverBelow Holds
@@ -175,5 +179,5 @@ never-below img shape e lay g =
     let l = unpack img lay in
     let ages = good-lawful img lay s g .ages in
     calls-so NotBelow img lay s
-    (λ x q rest i c k idle. first-younger q (appended x rest) c k (falling-new x (q ∷ rest) (rw i at ages)))
-    (λ q rest i c k idle. first-younger q rest c k (rw i at (falling-older (l .queue) ages)))
+    (λ x q rest i c k idle. younger q (appended x rest) c k (falling-new x (q ∷ rest) (rw i at ages)))
+    (λ q rest i c k idle. younger q rest c k (rw i at (falling-older (l .queue) ages)))

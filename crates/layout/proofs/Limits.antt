@@ -2,6 +2,7 @@
 --     Measured      what is asked of a measure: of an event that is acted on, and of a hold-tap that is decided
 --     event-within, tick-within      what a call then comes to
 --     weighted      marks weighed by their kind are such a measure over every legal table
+--     at-most       so a call acts on one event and makes two decisions at most
 -- Assumes nothing.
 use Prim.Native.Nat.{ℕ, zero, suc, _+_, _-_, _≤_}
 use mathlib.Core.Path.{_≡_, refl}

@@ -3,7 +3,8 @@
 --     RunsSo        a fact that holds wherever the run of an action comes to a HoldTap
 --     EventSo, TickSo      the same of every action that a call runs: the walk of specs/Steps.antt
 --     NeverWaits    over an accepted image, whatever the layout, nothing waits there: Nested rules the assertion out
---     NeverBelow    where State is not given, the difference is never below 0
+--     FirstYounger  in a queue whose ages fall, the first release of a key is no older than the event before it
+--     NeverBelow    so where State is not given, the difference is never below 0
 -- Assumes nothing.
 use Prim.Native.Nat.{ℕ, _-_, _≤_}
 use mathlib.Core.Path.{_≡_}
@@ -23,7 +24,7 @@ use Rattle.layout.specs.Model.{Queued, Model, Waiting, Idle, Waits, ageO
 use Rattle.layout.specs.Actions.{find, doAction, chosen}
 use Rattle.layout.specs.Steps.{pressed, intoHold, releases, appended, entered, older}
 use Rattle.layout.specs.Packed.{unpack}
-use Rattle.layout.specs.State.{stateGood}
+use Rattle.layout.specs.State.{falling, stateGood}
 use Rattle.layout.specs.declared.notes.Way.{Way}
 use Rattle.layout.specs.declared.notes.Way.the-variants.{Tap, Hold}
 use Rattle.layout.specs.declared.queue.Found.{Found}
@@ -101,6 +102,9 @@ pub record CallsSo (P : Fact) (img : List ℕ) (lay : Layout) : Type 0 where
 
 unfoldable pub NeverWaits : Type 0
 NeverWaits = (img : List ℕ) (shape : Shape) → checkOf img ≡ Accepted shape → (lay : Layout) → CallsSo NothingWaits img lay
+
+unfoldable pub FirstYounger : Type 0
+FirstYounger = (q : Queued) (qs : List Queued) → falling (q ∷ qs) ≡ true → (c : Coord) (age : ℕ) → find c qs ≡ At age → age ≤ ageOf q
 
 unfoldable pub NeverBelow : Type 0
 NeverBelow = (img : List ℕ) (shape : Shape) → checkOf img ≡ Accepted shape → (lay : Layout) → stateGood img lay ≡ true → CallsSo NotBelow img lay
