@@ -18,7 +18,7 @@ use Rattle.debounce.specs.Calls.{switches, sizesGood, bounceGood, stateG
 use Rattle.debounce.specs.declared.Debouncer.{Debouncer}
 use Rattle.refusal.specs.declared.Verdict.the-variants.{Fine}
 use Rattle.debounce.proofs.States.{Legal, legal, scan-long}
-use Rattle.debounce.proofs.Said.{said-values}
+use Rattle.refusal.proofs.Said.{values-back}
 
 -- a scan in its places is a picture
 scan-picture : (n : ℕ) (scan : List ℕ) → isScan n scan ≡ true → isPicture n (padded scan) ≡ true
@@ -51,7 +51,7 @@ made-by rows columns nb start false s e f = refused-legal
 pub made-legal : (rows columns nb : ℕ) (start : List ℕ) → stateGood (newReply rows columns nb start .values) ≡ true
 unfolding makingVerdict
 made-legal rows columns nb start =
-    rw (said-values (makingVerdict rows columns nb start) _)
+    rw (values-back (makingVerdict rows columns nb start) _)
     (made-by rows columns nb start (bounceGood rows columns nb) (isScan (rows * columns) start) refl refl)
 
 -- both are pictures of the debouncer's switches

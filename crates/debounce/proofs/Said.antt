@@ -3,10 +3,8 @@ use Prim.Native.Nat.{ℕ}
 use mathlib.Core.Bool.{false}
 use mathlib.Core.List.{List}
 use mathlib.Core.Path.{_≡_, refl, sym, ap, _∙_}
-use Rattle.refusal.specs.Said.{Said, said}
+use Rattle.refusal.specs.Said.{Said}
 use Rattle.refusal.proofs.Said.{answerBack, refused-back, said-one}
-use Rattle.refusal.specs.declared.Verdict.{Verdict}
-use Rattle.refusal.specs.declared.Verdict.the-variants.{Fine, Refused}
 use Rattle.debounce.specs.Calls.{madeSaid, gotSaid, changeSaid, countSaid, updatedSaid, Reply, handed}
 use Rattle.debounce.specs.declared.Made.{Made}
 use Rattle.debounce.specs.declared.Got.{Got}
@@ -16,10 +14,6 @@ use Rattle.debounce.specs.declared.Updated.{Updated}
 use Rattle.debounce.specs.declared.Telling.{Telling}
 use Rattle.debounce.specs.declared.Telling.the-variants as telling
 use Rattle.debounce.specs.declared.Answered.{Answered}
-
-pub said-values : {A : Type 0} (v : Verdict) (a : A) → said v a .values ≡ a
-said-values Fine a = refl
-said-values (Refused r p) a = refl
 
 pub made-one : (x y : Made) → madeSaid x ≡ madeSaid y → x ≡ y
 made-one x y e =

@@ -17,7 +17,7 @@ use Rattle.event.specs.declared.Coord.{Coord}
 use Rattle.event.specs.declared.Event.{Event}
 use Rattle.event.specs.declared.Event.the-variants.{Release, Press}
 use Rattle.image.specs.Tree.{Action}
-use Rattle.image.specs.Legal.{Times, holdable}
+use Rattle.image.specs.Proper.{Times, holdable}
 use Rattle.image.specs.Table.{Table}
 use Rattle.layout.specs.Model.{Queued, Waiting, Idle, Waits, Model, Mark, Decided, ageOf, same, still, withWaiting, withQueue}
 use Rattle.layout.specs.Notes.{actedOn}
@@ -27,12 +27,12 @@ use Rattle.layout.specs.declared.active.State.{State}
 use Rattle.layout.specs.declared.notes.Way.{Way}
 use Rattle.layout.specs.declared.notes.Way.the-variants.{Tap, Hold}
 use Rattle.layout.proofs.Noted.{acted-append}
-use Rattle.layout.proofs.Running.{Down, Kept, kept, ran, default-legal}
+use Rattle.layout.proofs.Running.{Down, Kept, kept, ran, default-proper}
 use Rattle.demands.specs.Runs.{Call, Tick, Enter, call, run, arrived}
 use Rattle.demands.specs.Words.{Leads, Nothing, Key, downBy, downAfter}
 use Rattle.demands.proofs.Cost.{cost, share, cost-less, share-whole}
 use Rattle.demands.proofs.Marks.{leads-append, down-append, down-nil, down-head, down-cons, down-more}
-use Rattle.demands.proofs.Legal.{Legal}
+use Rattle.demands.proofs.Proper.{Proper}
 use Rattle.demands.proofs.Waits.{pending, Good, Sure, good-idle, good-more, good-cost, comes-acted, comes-leads, comes-good}
 
 abbrev eventIn : Queued → Event
@@ -162,13 +162,13 @@ goes-still : {m : Times} {es : List Event} {h : Coord → Bool} {l k : Model} �
 unfolding actedOn Leads downAfter
 goes-still w q f = record { order = q; leads = sym w; fit = f }
 
-module _ (t : Table) (m : Times) (ok : Legal t m) where
+module _ (t : Table) (m : Times) (ok : Proper t m) where
   pub acts : (e : Event) (age : ℕ) (h : Coord → Bool) (l : Model) → l .waiting ≡ Idle → Down h (l .states) → Acts m e age h l ((act t e age l) .layout) ((act t e age l) .marks)
   unfolding act actedOn Leads pressed
   acts (Press i j) age h l w d =
       let c : Coord = record { i = i; j = j } in
       let now = current (l .base) (held (l .states)) in
-      let r = ran (pressed t c l) m (t .layers) c age (find c (l .queue)) l (default-legal (t .cell now i j) (t .cell (l .base) i j) m (ok .cells now i j) (ok .cells (l .base) i j)) w in
+      let r = ran (pressed t c l) m (t .layers) c age (find c (l .queue)) l (default-proper (t .cell now i j) (t .cell (l .base) i j) m (ok .cells now i j) (ok .cells (l .base) i j)) w in
       let g : Coord → Bool = λ x. cond (same c x) true (h x) in
       let gc : g c ≡ true = rw (same-refl c) in
       record {

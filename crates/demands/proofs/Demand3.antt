@@ -33,7 +33,7 @@ use Rattle.layout.proofs.Calls.{judged-fine}
 use Rattle.demands.specs.Runs.{Tick, Enter, arrived}
 use Rattle.demands.specs.Public.{Lent, callsOf, ticksOn, Roomy, reply, NoneRefused}
 use Rattle.demands.specs.Demand3.{did, boundOf, AtRest, Demand3, OfImages, OfFresh, Given, Heard}
-use Rattle.demands.proofs.Legal.{Quiet, legal-image}
+use Rattle.demands.proofs.Proper.{Quiet, proper-image}
 use Rattle.demands.proofs.Answers.{names-events, names-decisions}
 use Rattle.demands.proofs.OnLists.{OnLists, on-lists}
 use Rattle.demands.proofs.Replies.{Tied, tied-start, roomy-append, calls-are}
@@ -44,7 +44,7 @@ at-rest l q = record { empty = ap length (q .empty); idle = ap waitingIn (q .idl
 module _ (img : List ℕ) (shape : Shape) (bytes : (i : ℕ) → getD img i 0 < 256) (e : checkOf img ≡ Accepted shape) (start : Model) (s : Starts img start) (calls : List Lent) (room : Roomy calls) where
   -- the bound is that of the lists
   lists : (n : ℕ) → boundOf img start calls ≤ n → OnLists (tableOf img) (timesOf img) start (callsOf calls) n
-  lists n h = on-lists (tableOf img) (timesOf img) (legal-image img bytes (accepted img shape e .1)) start (s .stateless) (s .idle) (s .empty) (callsOf calls) n (rw (tied-start img shape e start s calls room .layout) at h)
+  lists n h = on-lists (tableOf img) (timesOf img) (proper-image img bytes (accepted img shape e .1)) start (s .stateless) (s .idle) (s .empty) (callsOf calls) n (rw (tied-start img shape e start s calls room .layout) at h)
 
   after : (bs : List (List ℕ)) → Roomy (ticksOn bs) → Tied img shape e (calls ++ ticksOn bs) start
   after bs r = tied-start img shape e start s (calls ++ ticksOn bs) (roomy-append calls (ticksOn bs) room r)

@@ -7,14 +7,14 @@ use mathlib.Core.List.{List, [], _∷_}
 use native.Mathlib.Omega.{arith}
 use lib.ListN.{length, length-map}
 use Rattle.event.specs.declared.Coord.{Coord}
-use Rattle.image.specs.Legal.{Times}
+use Rattle.image.specs.Proper.{Times}
 use Rattle.image.specs.Table.{Table}
 use Rattle.layout.specs.Model.{Queued, Waiting, Idle, Waits, Model, ageOf, withWaiting, withQueue}
 use Rattle.layout.specs.Steps.{act, older, tickWait, ticked, tick}
 use Rattle.demands.specs.Runs.{call, run, ticks}
 use Rattle.demands.specs.Words.{bound}
 use Rattle.demands.proofs.Cost.{cost, share, each, cost-idle, cost-pos, cost-less, cost-tick, Due, due-acted, due-start}
-use Rattle.demands.proofs.Legal.{Legal, Quiet}
+use Rattle.demands.proofs.Proper.{Proper, Quiet}
 use Rattle.demands.proofs.Waits.{Good, good-cost}
 use Rattle.demands.proofs.Calls.{Fit, fit-wait, acts, expires, goes-tick}
 
@@ -37,7 +37,7 @@ pub record Draining (m : Times) (n r : ℕ) (l : Model) : Type 0 where
   old : Old n (l .queue)
   due : Due m n r (cost m (l .waiting)) (length (l .queue))
 
-module _ (t : Table) (m : Times) (ok : Legal t m) where
+module _ (t : Table) (m : Times) (ok : Proper t m) where
   -- what waits comes to cost at most y
   drains-to : (n r x y : ℕ) (q : List Queued) (k : Model) → k .queue ≡ q → cost m (k .waiting) ≤ y → suc y ≤ x → Old (suc n) q → Due m n (suc r) x (length q) → Draining m (suc n) r k
   drains-to n r x y q k eq le lt o d = record { old = rw eq o; due = rw eq (record { soon = omega arith; late = omega arith }) }

@@ -1,6 +1,6 @@
 pub mod Cost
 pub mod Marks
-pub mod Legal
+pub mod Proper
 pub mod Waits
 pub mod Calls
 pub mod Drain

@@ -6,13 +6,13 @@ use mathlib.Core.Bool.{Bool, false}
 use mathlib.Core.List.{List, [], _∷_, _++_, append-nil}
 use lib.ListN.{length}
 use Rattle.event.specs.declared.Coord.{Coord}
-use Rattle.image.specs.Legal.{Times}
+use Rattle.image.specs.Proper.{Times}
 use Rattle.image.specs.Table.{Table}
 use Rattle.layout.specs.Model.{Queued, Model, Waiting, Idle, Done}
 use Rattle.layout.specs.Notes.{actedOn}
 use Rattle.demands.specs.Runs.{Call, call, run, ticks, arrived}
 use Rattle.demands.specs.Words.{bound, Leads, Nothing, AllReleased}
-use Rattle.demands.proofs.Legal.{Legal, Quiet}
+use Rattle.demands.proofs.Proper.{Proper, Quiet}
 use Rattle.demands.proofs.Marks.{down-nil, arrived-append, arrived-ticks, down-none}
 use Rattle.demands.proofs.Waits.{pending, good-idle}
 use Rattle.demands.proofs.Calls.{queued, Fit, Goes, goes-run}
@@ -40,7 +40,7 @@ run-append t (k ∷ a) b l = run-append t a b ((call t k l) .layout)
 up : Coord → Bool
 up c = false
 
-module _ (t : Table) (m : Times) (ok : Legal t m) (start : Model) (stateless : start .states ≡ []) (idle : start .waiting ≡ Idle) (empty : start .queue ≡ []) (calls : List Call) where
+module _ (t : Table) (m : Times) (ok : Proper t m) (start : Model) (stateless : start .states ≡ []) (idle : start .waiting ≡ Idle) (empty : start .queue ≡ []) (calls : List Call) where
   fits : Fit m up start
   fits = record { wait = good-idle m _ up (start .waiting) idle; down = rw stateless (down-nil up) }
 

@@ -15,7 +15,7 @@ use Rattle.event.specs.declared.Coord.{Coord}
 use Rattle.event.specs.declared.Event.the-variants.{Release, Press}
 use Rattle.image.specs.Words.{wordAt, cellOf, fieldOf, entryOf, entries, shapeOf}
 use Rattle.image.specs.Record.{actionOf, actionAt, codesIn, childrenIn, listEnd, cellAt}
-use Rattle.image.specs.Tree.{KeyCode, named, meaning, trees, tree, open?, someOpen, shutButLast, settled, weight, longest}
+use Rattle.image.specs.Tree.{KeyCode, named, meaning, trees, tree, open?, someOpen, shutButLast, opensLast, weight, longest}
 use Rattle.image.specs.Table.{treeIn, tableOf, longestBelow, timesOf}
 use Rattle.refusal.specs.Verdict.{rule, orElse, firstFault}
 use Rattle.image.specs.Check.{within, countsGood, offsetsGood, headerGood, headFault, cellFault, form, formGood, recordFault, bodyFault, faultOf, answer, checkOf}
@@ -30,10 +30,10 @@ use Rattle.demands.specs.Demand3.{boundOf, left, Demand3, OfFresh}
 use Rattle.demands.specs.Public.{Lent, callsOf, ticksOn, lentAll, Roomy}
 use Rattle.layout.specs.Packed.{pack}
 use Rattle.demands.specs.Z.{zOf, lent}
-use Rattle.demands.specs.Reached.{seventeen, tapped, Asked, Reached, Met}
+use Rattle.demands.specs.Reached.{seventeen, tapped, Asked, BoundReached, Met}
 use Rattle.layout.specs.Reach.{waitsIn, FreshStarts}
 use Rattle.layout.proofs.Reach.{fresh-starts}
-use Rattle.demands.proofs.Legal.{Quiet}
+use Rattle.demands.proofs.Proper.{Quiet}
 use Rattle.demands.proofs.OnLists.{drain, queuedAfter}
 use Rattle.demands.proofs.Replies.{Tied, tied-start, roomy-append, calls-are, lent-calls, lent-roomy, ticks-roomy}
 use Rattle.demands.proofs.Demand3.{at-rest, of-fresh}
@@ -51,7 +51,7 @@ module _ (t : ℕ) where
 
   -- the check does not look at a timeout
   z-accepted : checkOf (zOf t) ≡ Accepted (shapeOf (zOf t))
-  unfolding zOf legal every wordAt cellOf fieldOf entryOf entries actionOf actionAt codesIn childrenIn listEnd named meaning trees tree open? someOpen shutButLast settled weight rule orElse firstFault within countsGood offsetsGood headerGood headFault cellFault form formGood recordFault bodyFault faultOf answer checkOf
+  unfolding zOf legal every wordAt cellOf fieldOf entryOf entries actionOf actionAt codesIn childrenIn listEnd named meaning trees tree open? someOpen shutButLast opensLast weight rule orElse firstFault within countsGood offsetsGood headerGood headFault cellFault form formGood recordFault bodyFault faultOf answer checkOf
   z-accepted = refl
 
   z-longest : timesOf (zOf t) .first ≡ t
@@ -94,7 +94,7 @@ bound-z t q ks e = rw (tied-z t (lentAll lent ks) (lent-roomy lent ks lent-room)
 left-z : (t : ℕ) (ks : List Call) (n : ℕ) → left (zOf t) fresh (lentAll lent ks) (replicate n lent) ≡ pack (drain (tableOf (zOf t)) fresh ks n .layout)
 left-z t ks n = tied-drain t ks n .layout ∙ rw (calls-z ks n)
 
-pub reached : Reached
+pub reached : BoundReached
 reached =
     record {
       asked = asked 1 (omega arith);

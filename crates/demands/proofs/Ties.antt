@@ -13,7 +13,7 @@ use Rattle.event.specs.declared.Coord.{Coord}
 use Rattle.event.specs.declared.Event.{Event}
 use Rattle.event.specs.declared.Event.the-variants.{Release, Press}
 use Rattle.image.specs.Check.{checkOf}
-use Rattle.image.specs.Legal.{closed, holdable, legal}
+use Rattle.image.specs.Proper.{closed, holdable, proper}
 use Rattle.image.specs.Sound.{Sound}
 use Rattle.image.specs.Table.{Table, tableOf, timesOf}
 use Rattle.image.specs.Tree.{Action, HoldTap}
@@ -31,14 +31,14 @@ use Rattle.layout.specs.declared.active.Waiting.the-variants as waiting
 use Rattle.layout.specs.declared.notes.Way.{Way}
 use Rattle.layout.specs.declared.notes.Way.the-variants.{Tap, Hold}
 use Rattle.layout.specs.declared.layout.Layout.{Layout}
-use Rattle.layout.proofs.Running.{kept, default-legal}
+use Rattle.layout.proofs.Running.{kept, default-proper}
 use Rattle.layout.proofs.Lawful.{Lawful}
-use Rattle.layout.proofs.Limits.{Calm, legal-cells, calm-held}
+use Rattle.layout.proofs.Limits.{Calm, proper-cells, calm-held}
 use Rattle.layout.proofs.Reach.{reached-packed, unpack-pack}
 use Rattle.demands.specs.Runs.{Call, Tick, Enter, call, run, ticks}
 use Rattle.demands.specs.Public.{Lent, callsOf, ticksOn, Roomy, replies, lastLayout}
 use Rattle.demands.specs.Demand3.{AtRest}
-use Rattle.demands.specs.Ties.{decidedBy, Keyed, pressOn, Live, LiveTie, pressAndRelease, QueuedWay, QueuedTie}
+use Rattle.demands.specs.Ties.{decidedBy, Keyed, pressOn, Live, LiveTie, pressAndRelease, Behind, QueuedTie}
 use Rattle.demands.proofs.Calls.{same-refl}
 use Rattle.demands.proofs.Answers.{names-decisions}
 use Rattle.demands.proofs.OnLists.{run-append}
@@ -49,12 +49,12 @@ less m = omega arith
 
 -- the hold and the tap of what a press runs are not open
 shut : (img : List ℕ) → Sound img → (l : Model) (c : Coord) (n t : ℕ) (hold tap : Action) → pressed (tableOf img) c l ≡ HoldTap n t hold tap → (closed hold ≡ true) × (closed tap ≡ true)
-unfolding pressed legal holdable
+unfolding pressed proper holdable
 shut img s l c n t hold tap e =
     let now = current (l .base) (held (l .states)) in
     let m = timesOf img in
-    let all = default-legal (tableOf img .cell now (c .i) (c .j)) (tableOf img .cell (l .base) (c .i) (c .j)) m (legal-cells img s now (c .i) (c .j)) (legal-cells img s (l .base) (c .i) (c .j)) in
-    let r : legal (HoldTap n t hold tap) m ≡ true = sym (ap (λ (a : Action). legal a m) e) ∙ all in
+    let all = default-proper (tableOf img .cell now (c .i) (c .j)) (tableOf img .cell (l .base) (c .i) (c .j)) m (proper-cells img s now (c .i) (c .j)) (proper-cells img s (l .base) (c .i) (c .j)) in
+    let r : proper (HoldTap n t hold tap) m ≡ true = sym (ap (λ (a : Action). proper a m) e) ∙ all in
     both-true (closed hold) (closed tap) (both-true (leb t (m .first)) (closed hold && closed tap) r .1)
 
 -- the queue after so many ticks
@@ -229,7 +229,7 @@ module _ (img : List ℕ) (shape : Shape) (e : checkOf img ≡ Accepted shape) (
   -- the tick after a wait that ended, with a press and its release g ticks apart in the queue
   tie : (c : Coord) (g m : ℕ) → g + suc m < 65535 → l .waiting ≡ Idle
       → l .queue ≡ olderBy (suc m) (olderBy g (newOne (Press (c .i) (c .j)))) ∷ olderBy (suc m) (newOne (Release (c .i) (c .j))) ∷ []
-      → (timeout : ℕ) → Keyed img (pack l) c timeout → QueuedWay img (pack l) c g timeout
+      → (timeout : ℕ) → Keyed img (pack l) c timeout → Behind img (pack l) c g timeout
   unfolding Roomy run call ticks
   tie c g m few idle queue timeout key =
       let p = newOne (Press (c .i) (c .j)) in
@@ -262,7 +262,7 @@ module _ (img : List ℕ) (shape : Shape) (e : checkOf img ≡ Accepted shape) (
   behind : (d : Coord) (left n : ℕ) (hold tap : Action) → l .waiting ≡ Waits d left n hold tap → l .queue ≡ [] → (c : Coord) → same d c ≡ false
       → (p : List ℕ) (gap : List (List ℕ)) (r : List ℕ) (rest : List (List ℕ)) → Roomy (pressAndRelease c p gap r rest) → left ≡ length gap + length rest → 1 ≤ length rest → left < 65535
       → let after = lastLayout (pack l) (replies img (pressAndRelease c p gap r rest) (pack l)) in
-      (timeout : ℕ) → Keyed img after c timeout → QueuedWay img after c (length gap) timeout
+      (timeout : ℕ) → Keyed img after c timeout → Behind img after c (length gap) timeout
   behind d left n hold tap ew eq c apart p gap r [] roomy sum one few timeout key = absurd (omega arith)
   behind d left n hold tap ew eq c apart p gap r (b ∷ bs) roomy sum one few timeout key =
       let t = tableOf img in
@@ -280,15 +280,16 @@ module _ (img : List ℕ) (shape : Shape) (e : checkOf img ≡ Accepted shape) (
       let after : lastLayout (pack l) (replies img ks (pack l)) ≡ pack k = tied img shape e ks l w roomy .layout ∙ ap pack is in
       let calm : Calm (Waits d left n hold tap) = subst Calm (ap (λ (x : Model). x .waiting) (unpack-pack img l w) ∙ ew) (calm-held img (waitsIn (pack l)) (accepted img shape e .1)) in
       let y = queues t l d n hold tap c apart (calm .0) g m in
-      subst (λ (lay : Layout). QueuedWay img lay c g timeout) (sym after)
+      subst (λ (lay : Layout). Behind img lay c g timeout) (sym after)
       (tie img shape e k lawful c g m (omega arith) (y .1) (y .0) timeout (subst (λ (lay : Layout). Keyed img lay c timeout) after key))
 
 pub queued-tie : QueuedTie
 unfolding QueuedTie
 queued-tie img shape e lay reached =
     let q = reached-packed img lay (accepted img shape e .1) reached in
+    let back = sym (unpack-pack img (q .model) (q .lawful)) in
     rw (q .is)
-    (λ d left n hold tap ew eq. behind img shape e (q .model) (q .lawful) d left n hold tap (ap (λ (x : Model). x .waiting) (sym (unpack-pack img (q .model) (q .lawful))) ∙ ew) (ap (λ (x : Model). x .queue) (sym (unpack-pack img (q .model) (q .lawful))) ∙ eq))
+    (λ d left h. behind img shape e (q .model) (q .lawful) d left (h .number) (h .hold) (h .tap) (ap (λ (x : Model). x .waiting) back ∙ h .is) (ap (λ (x : Model). x .queue) back ∙ h .empty))
 
 pub live-tie : LiveTie
 unfolding LiveTie

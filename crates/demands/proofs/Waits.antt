@@ -7,7 +7,7 @@ use mathlib.Core.List.{List, []}
 use native.Mathlib.Omega.{arith}
 use Rattle.event.specs.declared.Coord.{Coord}
 use Rattle.image.specs.Tree.{Action}
-use Rattle.image.specs.Legal.{closed, Times, holdable}
+use Rattle.image.specs.Proper.{closed, Times, holdable}
 use Rattle.layout.specs.Model.{Waiting, Idle, Waits, Mark}
 use Rattle.layout.specs.Notes.{actedOn}
 use Rattle.layout.proofs.Running.{Comes, nothing, begun, settled}

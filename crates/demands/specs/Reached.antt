@@ -29,7 +29,7 @@ pub record Asked (image buffer : List ℕ) : Type 0 where
   pub room : 64 ≤ length buffer
 
 -- Z with timeout 1: not at rest one tick before the bound, at rest at it
-pub record Reached : Type 0 where
+pub record BoundReached : Type 0 where
   pub asked : Asked (zOf 1) lent
   pub most : boundOf (zOf 1) fresh (lentAll lent seventeen) ≡ 33
   pub before : AtRest (left (zOf 1) fresh (lentAll lent seventeen) (replicate 32 lent)) → ⊥

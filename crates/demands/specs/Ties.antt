@@ -44,8 +44,12 @@ pressOn c b bs = record { call = Enter (Press (c .i) (c .j)); buffer = b } ∷ t
 
 -- undecided one tick before the tie, and hold at the tick of the tie
 pub record Live (image : List ℕ) (layout : Layout) (c : Coord) (timeout : ℕ) : Type 0 where
-  pub before : (b : List ℕ) (bs : List (List ℕ)) → Roomy (pressOn c b bs) → suc (length bs) ≡ timeout → decidedBy image layout (pressOn c b bs) ≡ []
-  pub at : (b : List ℕ) (bs : List (List ℕ)) → Roomy (pressOn c b bs) → length bs ≡ timeout → decidedBy image layout (pressOn c b bs) ≡ (c, Hold) ∷ []
+  pub before :
+      (b : List ℕ) (bs : List (List ℕ)) → Roomy (pressOn c b bs)
+      → suc (length bs) ≡ timeout → decidedBy image layout (pressOn c b bs) ≡ []
+  pub at :
+      (b : List ℕ) (bs : List (List ℕ)) → Roomy (pressOn c b bs)
+      → length bs ≡ timeout → decidedBy image layout (pressOn c b bs) ≡ (c, Hold) ∷ []
 
 -- nothing waits and nothing is queued, whatever is held; the timeout is 2 or more
 unfoldable pub LiveTie : Type 0
@@ -57,10 +61,19 @@ LiveTie =
 -- a press, ticks, its release, and ticks again, one for each buffer
 abbrev pub pressAndRelease : Coord → List ℕ → List (List ℕ) → List ℕ → List (List ℕ) → List Lent
 pressAndRelease c p gap r rest =
-    record { call = Enter (Press (c .i) (c .j)); buffer = p } ∷ (ticksOn gap ++ (record { call = Enter (Release (c .i) (c .j)); buffer = r } ∷ ticksOn rest))
+    record { call = Enter (Press (c .i) (c .j)); buffer = p }
+    ∷ (ticksOn gap ++ (record { call = Enter (Release (c .i) (c .j)); buffer = r } ∷ ticksOn rest))
+
+-- a key waits, with so many ticks left, and nothing is queued
+pub record Held (image : List ℕ) (layout : Layout) (d : Coord) (left : ℕ) : Type 0 where
+  pub number : ℕ
+  pub hold : Action
+  pub tap : Action
+  pub is : unpack image layout .waiting ≡ Waits d left number hold tap
+  pub empty : unpack image layout .queue ≡ []
 
 -- the next tick acts on the press, and the release behind it decides: tap at the tie, hold one tick past it
-pub record QueuedWay (image : List ℕ) (layout : Layout) (c : Coord) (gap timeout : ℕ) : Type 0 where
+pub record Behind (image : List ℕ) (layout : Layout) (c : Coord) (gap timeout : ℕ) : Type 0 where
   pub at : (b : List ℕ) → 64 ≤ length b → gap ≡ timeout → decidedBy image layout (ticksOn (b ∷ [])) ≡ (c, Tap) ∷ []
   pub past : (b : List ℕ) → 64 ≤ length b → gap ≡ suc timeout → decidedBy image layout (ticksOn (b ∷ [])) ≡ (c, Hold) ∷ []
 
@@ -69,9 +82,8 @@ unfoldable pub QueuedTie : Type 0
 QueuedTie =
     (image : List ℕ) (shape : Shape) → checkOf image ≡ Accepted shape
     → (layout : Layout) → Reached image layout
-    → (d : Coord) (left n : ℕ) (hold tap : Action) → unpack image layout .waiting ≡ Waits d left n hold tap → unpack image layout .queue ≡ []
-    → (c : Coord) → same d c ≡ false
+    → (d : Coord) (left : ℕ) → Held image layout d left → (c : Coord) → same d c ≡ false
     → (p : List ℕ) (gap : List (List ℕ)) (r : List ℕ) (rest : List (List ℕ)) → Roomy (pressAndRelease c p gap r rest)
     → left ≡ length gap + length rest → 1 ≤ length rest → left < 65535
     → let after = lastLayout layout (replies image (pressAndRelease c p gap r rest) layout) in
-    (timeout : ℕ) → Keyed image after c timeout → QueuedWay image after c (length gap) timeout
+    (timeout : ℕ) → Keyed image after c timeout → Behind image after c (length gap) timeout

@@ -16,12 +16,12 @@ use Rattle.refusal.specs.declared.Refusal.the-variants as refusal
 use Rattle.image.specs.Inside.{Placed, Formed, wordsFrom, childrenOf}
 use Rattle.image.specs.Words.{recordsOf, entriesOf, fieldOf, entries, wordAt}
 use Rattle.image.specs.Record.{actionOf, actionAt, codesIn, childrenIn, listEnd}
-use Rattle.image.specs.Tree.{Action, end, _&_, named, meaning, tree, open?, someOpen, shutButLast, settled, weight, weights}
+use Rattle.image.specs.Tree.{Action, end, _&_, named, meaning, tree, open?, someOpen, shutButLast, opensLast, weight, weights}
 use Rattle.refusal.specs.Verdict.{rule}
 use Rattle.image.specs.Check.{form, formGood, recordFault}
 use Rattle.image.specs.declared.children.Children.{Children}
 use Rattle.image.specs.Sound.{Good}
-use Rattle.image.specs.declared.record.Action.{Action as Record}
+use Rattle.image.specs.declared.record.Action.{Action as Coded}
 use Rattle.image.specs.declared.record.Action.the-variants as code
 use Rattle.refusal.specs.declared.Verdict.{Verdict}
 use Rattle.refusal.specs.declared.Verdict.the-variants.{Fine, Refused}
@@ -57,11 +57,11 @@ module _ (img : List ℕ) (n : ℕ) {k a b c : ℕ} (kind : k ≡ fieldOf img n 
   action-read h = rw (kind, first, second, third) (action-inside img n h)
 
 -- the rules past the form of record n with the action x, whose tree speaks of the trees of the records it names
-abbrev rulesPast : List ℕ → ℕ → Record → Verdict
+abbrev rulesPast : List ℕ → ℕ → Coded → Verdict
 rulesPast img n x =
     rule (every legal (codesIn img x)) refusal.Code n
     (rule (every (λ k. ltb k n) (childrenIn img x)) refusal.Child n
-    (rule (settled (meaning img (tree img) n x)) refusal.Nested n (rule (leb (weight (meaning img (tree img) n x)) 64) refusal.Weight n Fine)))
+    (rule (opensLast (meaning img (tree img) n x)) refusal.Nested n (rule (leb (weight (meaning img (tree img) n x)) 64) refusal.Weight n Fine)))
 
 -- the form of record n is bad
 pub form-bad : (img : List ℕ) (n : ℕ) → formGood img n ≡ false → Refused refusal.Record n ≡ recordFault img n
@@ -70,20 +70,20 @@ form-bad img n f = rule-no _ _ _ _ f
 
 -- its form is good: the rules past it are those of its action, and each kind can break only some of them
 module _ (img : List ℕ) (n : ℕ) (f : Formed img n) where
-  rules-past : (x : Record) → actionAt img n ≡ x → rulesPast img n x ≡ recordFault img n
+  rules-past : (x : Coded) → actionAt img n ≡ x → rulesPast img n x ≡ recordFault img n
   unfolding recordFault
-  rules-past x e = rw (← e) (rule-yes _ _ _ _ (f .form) (rule-with _ refusal.Code n _ _ (λ _. rule-with _ refusal.Child n _ _ (λ l. ap (λ t. rule (settled t) refusal.Nested n (rule (leb (weight t) 64) refusal.Weight n Fine)) (sym (tree-step img n l))))))
+  rules-past x e = rw (← e) (rule-yes _ _ _ _ (f .form) (rule-with _ refusal.Code n _ _ (λ _. rule-with _ refusal.Child n _ _ (λ l. ap (λ t. rule (opensLast t) refusal.Nested n (rule (leb (weight t) 64) refusal.Weight n Fine)) (sym (tree-step img n l))))))
 
   pub code-rules : (k : ℕ) → actionAt img n ≡ code.KeyCode k → rule (legal k) refusal.Code n Fine ≡ recordFault img n
-  unfolding rule codesIn childrenIn every meaning settled weight
+  unfolding rule codesIn childrenIn every meaning opensLast weight
   code-rules k e = rw (← and-true (legal k)) (rules-past (code.KeyCode k) e)
 
   pub codes-rules : (a b : ℕ) → actionAt img n ≡ code.MultipleKeyCodes a b → rule (every legal (entries img a b)) refusal.Code n (rule (leb (1 + b) 64) refusal.Weight n Fine) ≡ recordFault img n
-  unfolding rule codesIn childrenIn every meaning settled weight
+  unfolding rule codesIn childrenIn every meaning opensLast weight
   codes-rules a b e = ap (λ k. rule (every legal (entries img a b)) refusal.Code n (rule (leb (1 + k) 64) refusal.Weight n Fine)) (sym (length-entries img a b)) ∙ rules-past (code.MultipleKeyCodes a b) e
 
   actions-rules : (a b : ℕ) → actionAt img n ≡ code.MultipleActions a b → rule (every (λ k. ltb k n) (entries img a b)) refusal.Child n (rule (shutButLast (named (tree img) (entries img a b))) refusal.Nested n (rule (leb (1 + weights (named (tree img) (entries img a b))) 64) refusal.Weight n Fine)) ≡ recordFault img n
-  unfolding rule codesIn childrenIn every meaning settled weight
+  unfolding rule codesIn childrenIn every meaning opensLast weight
   actions-rules a b e = rules-past (code.MultipleActions a b) e
 
   pub empty-rules : (a b : ℕ) → actionAt img n ≡ code.MultipleActions a b → b ≡ 0 → Fine ≡ recordFault img n
@@ -91,11 +91,11 @@ module _ (img : List ℕ) (n : ℕ) (f : Formed img n) where
   empty-rules a b e z = rw z at (actions-rules a b e)
 
   hold-tap-rules : (t h p : ℕ) → actionAt img n ≡ code.HoldTap t h p → rule (ltb h n && ltb p n) refusal.Child n (rule (not (open? (tree img h)) && not (open? (tree img p))) refusal.Nested n (rule (leb (1 + (weight (tree img h) + weight (tree img p))) 64) refusal.Weight n Fine)) ≡ recordFault img n
-  unfolding rule codesIn childrenIn every meaning settled weight
+  unfolding rule codesIn childrenIn every meaning opensLast weight
   hold-tap-rules t h p e = rw (← and-true (ltb p n)) (rules-past (code.HoldTap t h p) e)
 
   pub no-rules : (fieldOf img n 0 ≡ 2 → ⊥) → (fieldOf img n 0 ≡ 3 → ⊥) → (fieldOf img n 0 ≡ 4 → ⊥) → (fieldOf img n 0 ≡ 7 → ⊥) → Fine ≡ recordFault img n
-  unfolding rule codesIn childrenIn every meaning settled weight
+  unfolding rule codesIn childrenIn every meaning opensLast weight
   no-rules h2 h3 h4 h7 =
       by-kind (λ x. Fine ≡ rulesPast img n x) (fieldOf img n 0) (fieldOf img n 2) (fieldOf img n 4) (fieldOf img n 6)
       (λ _. refl) (λ _. refl) (λ e. absurd (h2 e)) (λ e. absurd (h3 e)) (λ e. absurd (h4 e)) (λ _. refl) (λ _. refl) (λ e. absurd (h7 e))

@@ -16,7 +16,7 @@ use Rattle.refusal.specs.declared.Verdict.the-variants.{Fine, Refused}
 use Rattle.refusal.specs.declared.Refusal.the-variants.{Short, Header, Length, Cell, Record, Code, Child, Nested, Weight}
 use Rattle.image.specs.Words.{versionOf, recordsOf, entriesOf, cellsOf, sizeOf, shapeOf, cellOf, fieldOf}
 use Rattle.image.specs.Record.{actionAt, codesIn, childrenIn}
-use Rattle.image.specs.Tree.{tree, weight, settled}
+use Rattle.image.specs.Tree.{tree, weight, opensLast}
 use Rattle.image.specs.declared.words.Shape.{Shape}
 use Rattle.image.specs.declared.rules.Checked.{Checked}
 use Rattle.image.specs.declared.rules.Checked.the-variants as checked
@@ -69,7 +69,7 @@ recordFault img n =
     rule (formGood img n) Record n
     (rule (every legal (codesIn img (actionAt img n))) Code n
     (rule (every (λ k. ltb k n) (childrenIn img (actionAt img n))) Child n
-    (rule (settled (tree img n)) Nested n (rule (leb (weight (tree img n)) 64) Weight n Fine))))
+    (rule (opensLast (tree img n)) Nested n (rule (leb (weight (tree img n)) 64) Weight n Fine))))
 
 -- cells from the first, then records from 0 up
 unfoldable pub bodyFault : List ℕ → Verdict

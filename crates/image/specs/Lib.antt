@@ -1,7 +1,7 @@
 pub mod Words
 pub mod Record
 pub mod Tree
-pub mod Legal
+pub mod Proper
 pub mod Table
 pub mod Check
 pub mod Sound

@@ -9,7 +9,7 @@ use lib.Dec.{ltb}
 use Rattle.codes.specs.Codes.{legal}
 use Rattle.image.specs.Words.{layersOf, rowsOf, columnsOf, recordsOf, entriesOf, recordsAt, listAt, cellsOf, sizeOf, cellOf}
 use Rattle.image.specs.Record.{actionAt, codesIn, childrenIn, listEnd}
-use Rattle.image.specs.Tree.{weight, tree, settled, meaning}
+use Rattle.image.specs.Tree.{weight, tree, opensLast, meaning}
 use Rattle.image.specs.declared.record.Action.{Action}
 use Rattle.lists.specs.Lists.{every}
 use Rattle.image.specs.Check.{formGood}
@@ -31,7 +31,7 @@ pub record Good (img : List ℕ) (n : ℕ) : Type 0 where
   pub listed : listEnd (actionAt img n) ≤ entriesOf img
   pub codes : every legal (codesIn img (actionAt img n)) ≡ true
   pub lower : every (λ k. ltb k n) (childrenIn img (actionAt img n)) ≡ true
-  pub settles : settled (tree img n) ≡ true
+  pub settles : opensLast (tree img n) ≡ true
   pub light : weight (tree img n) ≤ 64
 
 pub record Sound (img : List ℕ) : Type 0 where

@@ -6,7 +6,7 @@ use mathlib.Core.List.{List}
 use Rattle.image.specs.Words.{layersOf, rowsOf, columnsOf, cellsOf, cellOf}
 use Rattle.image.specs.Record.{cellAt}
 use Rattle.image.specs.Tree.{Action, NoOp, tree, longest}
-use Rattle.image.specs.Legal.{Times}
+use Rattle.image.specs.Proper.{Times}
 use Rattle.image.specs.declared.record.Cell.{Cell}
 use Rattle.image.specs.declared.record.Cell.the-variants.{Record, Outside}
 

@@ -78,15 +78,15 @@ shutButLast (action & end) = true
 shutButLast (action & (next & actions)) = not (open? action) && shutButLast (next & actions)
 
 -- the open rule, at one action: hold and tap are not open, and only the last entry of a MultipleActions may be
-unfoldable pub settled : Action → Bool
-settled NoOp = true
-settled Trans = true
-settled (KeyCode code) = true
-settled (MultipleKeyCodes codes) = true
-settled (MultipleActions actions) = shutButLast actions
-settled (Layer number) = true
-settled (DefaultLayer number) = true
-settled (HoldTap n timeout hold tap) = not (open? hold) && not (open? tap)
+unfoldable pub opensLast : Action → Bool
+opensLast NoOp = true
+opensLast Trans = true
+opensLast (KeyCode code) = true
+opensLast (MultipleKeyCodes codes) = true
+opensLast (MultipleActions actions) = shutButLast actions
+opensLast (Layer number) = true
+opensLast (DefaultLayer number) = true
+opensLast (HoldTap n timeout hold tap) = not (open? hold) && not (open? tap)
 
 -- the weight: 1, plus the count of a kind 3, plus the weights of every record named, repeated ones each time
 unfoldable mutual

@@ -11,7 +11,7 @@ use Rattle.event.specs.declared.Coord.{Coord}
 use Rattle.event.specs.declared.Event.{Event}
 use Rattle.event.specs.declared.Event.the-variants.{Release, Press}
 use Rattle.image.specs.Tree.{Action, Actions, NoOp, Trans, KeyCode, MultipleKeyCodes, MultipleActions, Layer, DefaultLayer, HoldTap, end, _&_}
-use Rattle.image.specs.Legal.{closed, closedAll, Times, holdable, isEnd, legal, legalAll}
+use Rattle.image.specs.Proper.{closed, closedAll, Times, holdable, isEnd, proper, properAll}
 use Rattle.image.specs.Sound.{Sound}
 use Rattle.image.specs.Table.{Table, tableOf, timesOf}
 use Rattle.image.proofs.Accepted.{accepted}
@@ -27,10 +27,10 @@ use Rattle.layout.specs.declared.notes.Way.the-variants.{Tap, Hold}
 use Rattle.layout.specs.declared.queue.Found.{Found}
 use Rattle.layout.specs.declared.queue.Found.the-variants.{None, At}
 use Rattle.layout.specs.declared.layout.Layout.{Layout}
-use Rattle.layout.proofs.Running.{kept, default-legal}
+use Rattle.layout.proofs.Running.{kept, default-proper}
 use Rattle.layout.proofs.Lawful.{falling-older, falling-new}
 use Rattle.layout.proofs.Reach.{good-lawful}
-use Rattle.layout.proofs.Limits.{Calm, spare, Weights, weighted, within-entered, legal-cells, calm-held}
+use Rattle.layout.proofs.Limits.{Calm, spare, Weights, weighted, within-entered, proper-cells, calm-held}
 
 module _ (P : Fact) where
   -- a closed action comes to no HoldTap
@@ -63,9 +63,9 @@ module _ (P : Fact) where
 
   -- an action of an accepted table, where the fact holds of its delay whenever nothing waits
   mutual
-    unfolding legal holdable RunsSo
+    unfolding proper holdable RunsSo
 
-    legal-so : (a : Action) (m : Times) (n : ℕ) (c : Coord) (d : ℕ) (f : Found) (l : Model) → legal a m ≡ true → l .waiting ≡ Idle → ((k : Model) → k .waiting ≡ Idle → P d f k) → RunsSo P a n c d f l
+    legal-so : (a : Action) (m : Times) (n : ℕ) (c : Coord) (d : ℕ) (f : Found) (l : Model) → proper a m ≡ true → l .waiting ≡ Idle → ((k : Model) → k .waiting ≡ Idle → P d f k) → RunsSo P a n c d f l
     legal-so NoOp m n c d f l t e y = tt
     legal-so Trans m n c d f l t e y = tt
     legal-so (KeyCode k) m n c d f l t e y = tt
@@ -78,25 +78,25 @@ module _ (P : Fact) where
         let v = both-true (closed h) (closed p) (u .1) in
         (y l e, closed-so p n c 0 f (withWaiting Idle l) (v .1), closed-so h n c 0 f (withWaiting Idle l) (v .0))
 
-    all-legal-so : (as′ : Actions) (m : Times) (n : ℕ) (c : Coord) (d : ℕ) (f : Found) (l : Model) → legalAll as′ m ≡ true → l .waiting ≡ Idle → ((k : Model) → k .waiting ≡ Idle → P d f k) → AllRunSo P as′ n c d f l
+    all-legal-so : (as′ : Actions) (m : Times) (n : ℕ) (c : Coord) (d : ℕ) (f : Found) (l : Model) → properAll as′ m ≡ true → l .waiting ≡ Idle → ((k : Model) → k .waiting ≡ Idle → P d f k) → AllRunSo P as′ n c d f l
     all-legal-so end m n c d f l t e y = tt
     all-legal-so (a & as′) m n c d f l t e y =
-        let u = both-true ((closed a || isEnd as′) && legal a m) (legalAll as′ m) t in
-        let v = both-true (closed a || isEnd as′) (legal a m) (u .0) in
+        let u = both-true ((closed a || isEnd as′) && proper a m) (properAll as′ m) t in
+        let v = both-true (closed a || isEnd as′) (proper a m) (u .0) in
         (legal-so a m n c d f l (v .1) e y, rest-so a as′ n c d f l (closed a) refl (v .0) e (λ k ek. all-legal-so as′ m n c d f k (u .1) ek y))
 
   -- the fact holds of an event acted on while nothing waits, with these behind it in the queue
   Holds : ℕ → List Queued → Type 0
   Holds age qs = (c : Coord) (k : Model) → k .waiting ≡ Idle → P age (find c qs) k
 
-  module _ (T : Table) (m : Times) (ok : (layer row column : ℕ) → legal (T .cell layer row column) m ≡ true) where
+  module _ (T : Table) (m : Times) (ok : (layer row column : ℕ) → proper (T .cell layer row column) m ≡ true) where
     act-so : (e : Event) (age : ℕ) (l : Model) → l .waiting ≡ Idle → Holds age (l .queue) → ActSo P T e age l
     unfolding ActSo pressed Holds
     act-so (Release i j) age l e y = tt
     act-so (Press i j) age l e y =
         let c : Coord = record { i = i; j = j } in
         let now = current (l .base) (held (l .states)) in
-        legal-so (pressed T c l) m (T .layers) c age (find c (l .queue)) l (default-legal (T .cell now i j) (T .cell (l .base) i j) m (ok now i j) (ok (l .base) i j)) e (y c)
+        legal-so (pressed T c l) m (T .layers) c age (find c (l .queue)) l (default-proper (T .cell now i j) (T .cell (l .base) i j) m (ok now i j) (ok (l .base) i j)) e (y c)
 
     chosen-so : (way : Way) (h p : Action) → closed h ≡ true → closed p ≡ true → closed (chosen way h p) ≡ true
     chosen-so Tap h p eh ep = ep
@@ -143,8 +143,8 @@ module _ (P : Fact) where
       let l = unpack img lay in
       let calm : Calm (l .waiting) = calm-held img (waitsIn lay) s in
       record {
-        event = λ e. event-so (tableOf img) (timesOf img) (legal-cells img s) e l calm (y e);
-        tick = ticked-so (tableOf img) (timesOf img) (legal-cells img s) (l .waiting) (older (l .queue)) l refl calm z;
+        event = λ e. event-so (tableOf img) (timesOf img) (proper-cells img s) e l calm (y e);
+        tick = ticked-so (tableOf img) (timesOf img) (proper-cells img s) (l .waiting) (older (l .queue)) l refl calm z;
       }
 
 pub never-waits : NeverWaits

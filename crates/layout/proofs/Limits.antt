@@ -1,7 +1,7 @@
 -- The limits of a call, over a measure of what steps do: of decisions, of events acted on, and of whatever else adds up.
 --     Measured      what is asked of a measure: of an event that is acted on, and of a hold-tap that is decided
 --     event-within, tick-within      what a call then comes to
---     weighted      marks weighed by their kind are such a measure over every legal table
+--     weighted      marks weighed by their kind are such a measure over every proper table
 --     at-most       so a call acts on one event and makes two decisions at most
 -- Assumes nothing.
 use Prim.Native.Nat.{ℕ, zero, suc, _+_, _-_, _≤_}
@@ -17,11 +17,11 @@ use Rattle.lists.proofs.Laws.{both-true}
 use Rattle.event.specs.declared.Coord.{Coord}
 use Rattle.event.specs.declared.Event.{Event}
 use Rattle.event.specs.declared.Event.the-variants.{Release, Press}
-use Rattle.image.specs.Tree.{Action, NoOp, Trans, KeyCode, MultipleKeyCodes, MultipleActions, Layer, DefaultLayer, HoldTap, tree, open?, settled as settledIn}
-use Rattle.image.specs.Legal.{closed, Times, holdable, legal}
+use Rattle.image.specs.Tree.{Action, NoOp, Trans, KeyCode, MultipleKeyCodes, MultipleActions, Layer, DefaultLayer, HoldTap, tree, open?, opensLast}
+use Rattle.image.specs.Proper.{closed, Times, holdable, proper}
 use Rattle.image.specs.Sound.{Sound}
 use Rattle.image.specs.Table.{Table, tableOf, timesOf}
-use Rattle.image.proofs.Accepted.{accepted, settles, open-closed, legal-table}
+use Rattle.image.proofs.Accepted.{accepted, settles, open-closed, proper-table}
 use Rattle.layout.specs.Model.{Queued, Model, Waiting, Idle, Waits, Mark, Acted, Begun, Decided, Done, ageOf, still, after, withWaiting, withQueue}
 use Rattle.layout.specs.Actions.{find, decided}
 use Rattle.layout.specs.Steps.{current, held, pressed, act, into, intoHold, intoTap, releases, released, overflow, appended, entered, event, older, tickWait, ticked, tick}
@@ -34,7 +34,7 @@ use Rattle.layout.specs.declared.notes.Way.the-variants.{Tap, Hold}
 use Rattle.layout.specs.declared.active.Waiting.{Waiting as WaitingIn}
 use Rattle.layout.specs.declared.active.Waiting.the-variants as waiting
 use Rattle.layout.specs.declared.layout.Layout.{Layout}
-use Rattle.layout.proofs.Running.{kept, Comes, nothing, begun, settled, ran, default-legal}
+use Rattle.layout.proofs.Running.{kept, Comes, nothing, begun, settled, ran, default-proper}
 
 -- a measure of what is done, where `spare` is what a hold-tap that waits may still come to: acting on an event comes to `most`
 -- at most, what it leaves waiting counted; and deciding what waits to its spare at most, and then nothing waits
@@ -137,14 +137,14 @@ comes-weighed w nothing = (tt, omega arith)
 comes-weighed w (begun t i h p le th tp) = ((th, tp), omega arith)
 comes-weighed w (settled way) = (tt, omega arith)
 
-module _ (T : Table) (m : Times) (ok : (layer row column : ℕ) → legal (T .cell layer row column) m ≡ true) (w : Weights) where
+module _ (T : Table) (m : Times) (ok : (layer row column : ℕ) → proper (T .cell layer row column) m ≡ true) (w : Weights) where
   act-weighed : (e : Event) (age : ℕ) (l : Model) → l .waiting ≡ Idle → let r = act T e age l in Calm (r .layout .waiting) × (weighed w (r .marks) + spare w (r .layout .waiting) ≤ w .acted + w .begun + w .decided)
   unfolding act pressed weighed
   act-weighed (Release i j) age l e = rw e (tt, omega arith)
   act-weighed (Press i j) age l e =
       let c : Coord = record { i = i; j = j } in
       let now = current (l .base) (held (l .states)) in
-      let y = comes-weighed w (ran (pressed T c l) m (T .layers) c age (find c (l .queue)) l (default-legal (T .cell now i j) (T .cell (l .base) i j) m (ok now i j) (ok (l .base) i j)) e .comes) in
+      let y = comes-weighed w (ran (pressed T c l) m (T .layers) c age (find c (l .queue)) l (default-proper (T .cell now i j) (T .cell (l .base) i j) m (ok now i j) (ok (l .base) i j)) e .comes) in
       (y .0, omega (arith, y .1))
 
   into-weighed : (way : Way) (x : Waiting) (l : Model) → l .waiting ≡ x → Calm x → let r = into way T x l in (weighed w (r .marks) ≤ spare w x) × (r .layout .waiting ≡ Idle)
@@ -189,7 +189,7 @@ spare-most : (w : Weights) (x : Waiting) → spare w x ≤ w .decided
 spare-most w Idle = omega arith
 spare-most w (Waits c k i h p) = omega arith
 
-module _ (T : Table) (m : Times) (ok : (layer row column : ℕ) → legal (T .cell layer row column) m ≡ true) (l : Model) (calm : Calm (l .waiting)) where
+module _ (T : Table) (m : Times) (ok : (layer row column : ℕ) → proper (T .cell layer row column) m ≡ true) (l : Model) (calm : Calm (l .waiting)) where
   event-weight : (w : Weights) (e : Event) → weighed w (event T e l .marks) ≤ w .acted + w .begun + w .decided + w .decided
   event-weight w e = omega (arith, event-within T _ Calm (spare w) _ (weighted T m ok w) e l calm, spare-most w (l .waiting))
 
@@ -210,12 +210,12 @@ module _ (T : Table) (m : Times) (ok : (layer row column : ℕ) → legal (T .ce
         decides = omega (arith, count-decisions (tick T l .marks), tick-weight decisionWeights);
       }
 
--- every cell of an accepted table is legal, and what waits in a layout over it is looked up in it
-pub legal-cells : (img : List ℕ) → Sound img → (layer row column : ℕ) → legal (tableOf img .cell layer row column) (timesOf img) ≡ true
-legal-cells img s layer row column = is-true (legal (tableOf img .cell layer row column) (timesOf img)) (legal-table img layer row column s)
+-- every cell of an accepted table is proper, and what waits in a layout over it is looked up in it
+pub proper-cells : (img : List ℕ) → Sound img → (layer row column : ℕ) → proper (tableOf img .cell layer row column) (timesOf img) ≡ true
+proper-cells img s layer row column = is-true (proper (tableOf img .cell layer row column) (timesOf img)) (proper-table img layer row column s)
 
-calm-tree : (a : Action) → settledIn a ≡ true → (closed (holdOf a) ≡ true) × (closed (tapOf a) ≡ true)
-unfolding settledIn closed
+calm-tree : (a : Action) → opensLast a ≡ true → (closed (holdOf a) ≡ true) × (closed (tapOf a) ≡ true)
+unfolding opensLast closed
 calm-tree NoOp s = (refl, refl)
 calm-tree Trans s = (refl, refl)
 calm-tree (KeyCode x) s = (refl, refl)
@@ -233,8 +233,8 @@ pub limited : (img : List ℕ) (lay : Layout) → Sound img → Limited img lay
 limited img lay s =
     let calm : Calm (unpack img lay .waiting) = calm-held img (waitsIn lay) s in
     record {
-      event = event-limits (tableOf img) (timesOf img) (legal-cells img s) (unpack img lay) calm;
-      tick = tick-limits (tableOf img) (timesOf img) (legal-cells img s) (unpack img lay) calm;
+      event = event-limits (tableOf img) (timesOf img) (proper-cells img s) (unpack img lay) calm;
+      tick = tick-limits (tableOf img) (timesOf img) (proper-cells img s) (unpack img lay) calm;
     }
 
 pub at-most : AtMost

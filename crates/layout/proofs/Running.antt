@@ -16,7 +16,7 @@ use Rattle.lists.specs.Lists.{every}
 use Rattle.lists.proofs.Laws.{both-true, every-append}
 use Rattle.event.specs.declared.Coord.{Coord}
 use Rattle.image.specs.Tree.{Action, Actions, NoOp, Trans, KeyCode, MultipleKeyCodes, MultipleActions, Layer, DefaultLayer, HoldTap, end, _&_}
-use Rattle.image.specs.Legal.{closed, closedAll, Times, holdable, isEnd, legal, legalAll}
+use Rattle.image.specs.Proper.{closed, closedAll, Times, holdable, isEnd, proper, properAll}
 use Rattle.layout.specs.Model.{Waiting, Idle, Waits, Model, Mark, Begun, Decided, Done, still, after, withBase, withWaiting}
 use Rattle.layout.specs.Actions.{push, pushCodes, Verdict, Open, Now, verdict, begins, doAction, doActions}
 use Rattle.layout.specs.Steps.{coordIn, orDefault}
@@ -133,9 +133,9 @@ ran-join m a end n c d f l false e ea t r next = rw append-nil r
 ran-join m a (b & bs) n c d f l false e ea t r next = let z : _≡_ {A = ℕ} 0 1 = cc in absurd (omega arith)
 
 mutual
-  unfolding closed legal doAction
+  unfolding closed proper doAction
 
-  pub ran : (a : Action) (m : Times) (n : ℕ) (c : Coord) (d : ℕ) (f : Found) (l : Model) → legal a m ≡ true → l .waiting ≡ Idle → Ran m c d l ((doAction a n c d f l) .layout) ((doAction a n c d f l) .marks)
+  pub ran : (a : Action) (m : Times) (n : ℕ) (c : Coord) (d : ℕ) (f : Found) (l : Model) → proper a m ≡ true → l .waiting ≡ Idle → Ran m c d l ((doAction a n c d f l) .layout) ((doAction a n c d f l) .marks)
   ran NoOp m n c d f l t e = ran-kept m d e (kept NoOp n c d f l refl)
   ran Trans m n c d f l t e = ran-kept m d e (kept Trans n c d f l refl)
   ran (KeyCode k) m n c d f l t e = ran-kept m d e (kept (KeyCode k) n c d f l refl)
@@ -148,23 +148,23 @@ mutual
       let y = both-true (holdable h m) (closed p) (u .1) in
       ran-begins m i x h p n c d f l (verdict x d f) (leb-true x (m .first) (u .0)) (y .0) (y .1)
 
-  ran-all : (as′ : Actions) (m : Times) (n : ℕ) (c : Coord) (d : ℕ) (f : Found) (l : Model) → legalAll as′ m ≡ true → l .waiting ≡ Idle → Ran m c d l ((doActions as′ n c d f l) .layout) ((doActions as′ n c d f l) .marks)
+  ran-all : (as′ : Actions) (m : Times) (n : ℕ) (c : Coord) (d : ℕ) (f : Found) (l : Model) → properAll as′ m ≡ true → l .waiting ≡ Idle → Ran m c d l ((doActions as′ n c d f l) .layout) ((doActions as′ n c d f l) .marks)
   ran-all end m n c d f l t e = ran-kept m d e (kept-all end n c d f l refl)
   ran-all (a & as′) m n c d f l t e =
-      let u = both-true ((closed a || isEnd as′) && legal a m) (legalAll as′ m) t in
-      let y = both-true (closed a || isEnd as′) (legal a m) (u .0) in
+      let u = both-true ((closed a || isEnd as′) && proper a m) (properAll as′ m) t in
+      let y = both-true (closed a || isEnd as′) (proper a m) (u .0) in
       ran-join m a as′ n c d f l (closed a) e refl (y .0)
       (ran a m n c d f l (y .1) e)
       (λ k ek. ran-all as′ m n c d f k (u .1) ek)
 
 -- what a press finds in an accepted table
-pub default-legal : (a b : Action) (m : Times) → legal a m ≡ true → legal b m ≡ true → legal (orDefault a b) m ≡ true
-unfolding legal
-default-legal NoOp b m r s = refl
-default-legal Trans b m r s = s
-default-legal (KeyCode k) b m r s = refl
-default-legal (MultipleKeyCodes ks) b m r s = refl
-default-legal (MultipleActions actions) b m r s = r
-default-legal (Layer v) b m r s = refl
-default-legal (DefaultLayer v) b m r s = refl
-default-legal (HoldTap i t h p) b m r s = r
+pub default-proper : (a b : Action) (m : Times) → proper a m ≡ true → proper b m ≡ true → proper (orDefault a b) m ≡ true
+unfolding proper
+default-proper NoOp b m r s = refl
+default-proper Trans b m r s = s
+default-proper (KeyCode k) b m r s = refl
+default-proper (MultipleKeyCodes ks) b m r s = refl
+default-proper (MultipleActions actions) b m r s = r
+default-proper (Layer v) b m r s = refl
+default-proper (DefaultLayer v) b m r s = refl
+default-proper (HoldTap i t h p) b m r s = r

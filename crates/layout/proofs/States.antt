@@ -15,7 +15,7 @@ use Rattle.event.specs.declared.Event.{Event}
 use Rattle.event.specs.declared.Event.the-variants.{Release, Press}
 use Rattle.image.specs.Words.{layersOf}
 use Rattle.image.specs.Tree.{Action, meaning}
-use Rattle.image.specs.declared.record.Action.{Action as Record}
+use Rattle.image.specs.declared.record.Action.{Action as Coded}
 use Rattle.image.specs.declared.record.Action.the-variants as code
 use Rattle.image.proofs.record.Action.{the-type}
 use Rattle.layout.specs.Model.{Queued}
@@ -65,7 +65,7 @@ falling-short (s ∷ []) h = refl
 falling-short (s ∷ (t ∷ l)) h = absurd (omega arith)
 
 -- a record that is no HoldTap may not wait
-pub no-wait : (img : List ℕ) (n : ℕ) (t : ℕ → Action) (a : Record) (left : ℕ) → OneOf (0 ∷ 1 ∷ 2 ∷ 3 ∷ 4 ∷ 5 ∷ 6 ∷ []) (tagOf the-type a) → mayWait (meaning img t n a) left ≡ false
+pub no-wait : (img : List ℕ) (n : ℕ) (t : ℕ → Action) (a : Coded) (left : ℕ) → OneOf (0 ∷ 1 ∷ 2 ∷ 3 ∷ 4 ∷ 5 ∷ 6 ∷ []) (tagOf the-type a) → mayWait (meaning img t n a) left ≡ false
 unfolding meaning
 no-wait img n t code.NoOp left h = refl
 no-wait img n t code.Trans left h = refl

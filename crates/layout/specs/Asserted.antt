@@ -53,7 +53,8 @@ unfoldable mutual
   RunsSo P (MultipleActions actions) n c d f l = AllRunSo P actions n c d f l
   RunsSo P (Layer v) n c d f l = Unit
   RunsSo P (DefaultLayer v) n c d f l = Unit
-  RunsSo P (HoldTap i timeout hold tap) n c d f l = P d f l × RunsSo P tap n c 0 f (withWaiting Idle l) × RunsSo P hold n c 0 f (withWaiting Idle l)
+  RunsSo P (HoldTap i timeout hold tap) n c d f l =
+      P d f l × RunsSo P tap n c 0 f (withWaiting Idle l) × RunsSo P hold n c 0 f (withWaiting Idle l)
 
   pub AllRunSo : Fact → Actions → ℕ → Coord → ℕ → Found → Model → Type 0
   AllRunSo P end n c d f l = Unit
@@ -107,4 +108,5 @@ unfoldable pub FirstYounger : Type 0
 FirstYounger = (q : Queued) (qs : List Queued) → falling (q ∷ qs) ≡ true → (c : Coord) (age : ℕ) → find c qs ≡ At age → age ≤ ageOf q
 
 unfoldable pub NeverBelow : Type 0
-NeverBelow = (img : List ℕ) (shape : Shape) → checkOf img ≡ Accepted shape → (lay : Layout) → stateGood img lay ≡ true → CallsSo NotBelow img lay
+NeverBelow =
+    (img : List ℕ) (shape : Shape) → checkOf img ≡ Accepted shape → (lay : Layout) → stateGood img lay ≡ true → CallsSo NotBelow img lay

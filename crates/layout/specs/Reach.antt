@@ -47,8 +47,12 @@ FreshStarts = (img : List ℕ) (shape : Shape) → checkOf img ≡ Accepted shap
 
 pub data Reached (img : List ℕ) : Layout → Type 0 where
   start : {l : Model} → Starts img l → Reached img (pack l)
-  event : {lay : Layout} → Reached img lay → (e : Event) (room : ℕ) → Reached img (layoutAfter (judgedOf img lay room) (step.event (tableOf img) e (unpack img lay)) lay)
-  tick : {lay : Layout} → Reached img lay → (room : ℕ) → Reached img (layoutAfter (judgedOf img lay room) (step.tick (tableOf img) (unpack img lay)) lay)
+  event :
+      {lay : Layout} → Reached img lay → (e : Event) (room : ℕ)
+      → Reached img (layoutAfter (judgedOf img lay room) (step.event (tableOf img) e (unpack img lay)) lay)
+  tick :
+      {lay : Layout} → Reached img lay → (room : ℕ)
+      → Reached img (layoutAfter (judgedOf img lay room) (step.tick (tableOf img) (unpack img lay)) lay)
 
 -- only the buffer can be too small
 unfoldable pub NeverRefusedState : Type 0

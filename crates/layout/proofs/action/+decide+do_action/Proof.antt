@@ -19,7 +19,7 @@ use Rattle.image.specs.Words.{entries}
 use Rattle.image.specs.Record.{childrenIn, codesIn, listEnd}
 use Rattle.image.specs.Tree.{Action, NoOp, tree, named, meaning}
 use Rattle.image.specs.Sound.{Meant}
-use Rattle.image.specs.declared.record.Action.{Action as Record}
+use Rattle.image.specs.declared.record.Action.{Action as Coded}
 use Rattle.image.specs.declared.record.Action.the-variants as code
 use Rattle.image.proofs.record.Action.{the-type}
 use Rattle.image.proofs.Accepted.{tells, hold-lower, key-legal, entry-is, entry-not, all-head, all-tail, named-step, named-none}
@@ -84,16 +84,16 @@ abbrev do-action-μ-loop : do-action-lts.MeasureT-loop
 do-action-μ-loop image n setting added₀ first count at₀ left₀ out₀ added at left out = left
 
 -- what the record that was read says
-decide-means : (t : ℕ) (c : decide-lts.After-action-at (decide-calls t) (decide-at t) decide.Post) {x : Record} → c .action-at .result ≡ x
+decide-means : (t : ℕ) (c : decide-lts.After-action-at (decide-calls t) (decide-at t) decide.Post) {x : Coded} → c .action-at .result ≡ x
     → Meant (c .before .before .before .before .args .image .now) (c .before .before .before .before .args .n) x
 decide-means t c e = let s = c .before .before .before .before in tells (s .args .image .now) (s .args .n) (s .pre .1 .0) (c .action-at .ensures) e
 
-do-means : (t : ℕ) (c : do-action-lts.After-action-at (do-action-calls t) (do-action-at t) do-action.Post do-action-Inv-loop do-action-μ-loop) {x : Record} → c .action-at .result ≡ x
+do-means : (t : ℕ) (c : do-action-lts.After-action-at (do-action-calls t) (do-action-at t) do-action.Post do-action-Inv-loop do-action-μ-loop) {x : Coded} → c .action-at .result ≡ x
     → Meant (c .before .before .before .args .image .now) (c .before .before .before .args .n) x
 do-means t c e = let s = c .before .before .before in tells (s .args .image .now) (s .args .n) (s .pre .1 .0) (c .action-at .ensures) e
 
 -- a record that is no HoldTap has no hold and no tap
-no-hold : (img : List ℕ) (n : ℕ) (t : ℕ → Action) (a : Record) → OneOf (0 ∷ 1 ∷ 2 ∷ 3 ∷ 4 ∷ 5 ∷ 6 ∷ []) (tagOf the-type a) → (holdOf (meaning img t n a) ≡ NoOp) × (tapOf (meaning img t n a) ≡ NoOp)
+no-hold : (img : List ℕ) (n : ℕ) (t : ℕ → Action) (a : Coded) → OneOf (0 ∷ 1 ∷ 2 ∷ 3 ∷ 4 ∷ 5 ∷ 6 ∷ []) (tagOf the-type a) → (holdOf (meaning img t n a) ≡ NoOp) × (tapOf (meaning img t n a) ≡ NoOp)
 unfolding meaning
 no-hold img n t code.NoOp h = (refl, refl)
 no-hold img n t code.Trans h = (refl, refl)
@@ -115,7 +115,7 @@ unfolding decided
 begins-now Tap h p n c f l w = refl
 begins-now Hold h p n c f l w = refl
 
--- the turn that is settled, with nothing added yet
+-- the effect that is settled, with nothing added yet
 decide-settled : (t : ℕ) (c : decide-lts.After-settle (decide-calls t) (decide-at t) decide.Post)
     → let s = c .before .before .before in
     Effected (s .args .image .now) (s .args .setting .coord) (s .args .effect) (c .settle .result) (s .args .added .now) (s .args .added .now) (λ l. marked (Decided (s .args .setting .coord) (s .args .way)) (still (withWaiting Idle l)))

@@ -9,7 +9,7 @@ use denote.Enum.Declared.{tagOf}
 use types.Run.{OneOf, miss}
 use Rattle.image.specs.Table.{treeIn}
 use Rattle.image.specs.Tree.{Action, tree, meaning}
-use Rattle.image.specs.declared.record.Action.{Action as Record}
+use Rattle.image.specs.declared.record.Action.{Action as Coded}
 use Rattle.image.specs.declared.record.Action.the-variants as code
 use Rattle.image.proofs.record.Action.{the-type}
 use Rattle.image.proofs.Accepted.{tells}
@@ -18,7 +18,7 @@ use Rattle.layout.proofs.steps.press_as_action.Statement.{statement}
 use Rattle.layout.proofs.steps.press_as_action.Tie as tie
 
 -- a record that is no Trans is not looked up again
-not-trans : (img : List ℕ) (n : ℕ) (t : ℕ → Action) (a : Record) (b : Action) → OneOf (0 ∷ 2 ∷ 3 ∷ 4 ∷ 5 ∷ 6 ∷ 7 ∷ []) (tagOf the-type a) → orDefault (meaning img t n a) b ≡ meaning img t n a
+not-trans : (img : List ℕ) (n : ℕ) (t : ℕ → Action) (a : Coded) (b : Action) → OneOf (0 ∷ 2 ∷ 3 ∷ 4 ∷ 5 ∷ 6 ∷ 7 ∷ []) (tagOf the-type a) → orDefault (meaning img t n a) b ≡ meaning img t n a
 unfolding meaning
 not-trans img n t code.NoOp b h = refl
 not-trans img n t code.Trans b h = absurd (miss (0 ∷ 2 ∷ 3 ∷ 4 ∷ 5 ∷ 6 ∷ 7 ∷ []) 1 tt h)

@@ -36,16 +36,16 @@ isEnd (action & actions) = false
 
 -- everywhere in a tree: hold and tap are not open, only the last entry of a MultipleActions may be, and no hold time passes the longest
 unfoldable mutual
-  pub legal : Action → Times → Bool
-  legal NoOp times = true
-  legal Trans times = true
-  legal (KeyCode code) times = true
-  legal (MultipleKeyCodes codes) times = true
-  legal (MultipleActions actions) times = legalAll actions times
-  legal (Layer number) times = true
-  legal (DefaultLayer number) times = true
-  legal (HoldTap n timeout hold tap) times = leb timeout (times .first) && (holdable hold times && closed tap)
+  pub proper : Action → Times → Bool
+  proper NoOp times = true
+  proper Trans times = true
+  proper (KeyCode code) times = true
+  proper (MultipleKeyCodes codes) times = true
+  proper (MultipleActions actions) times = properAll actions times
+  proper (Layer number) times = true
+  proper (DefaultLayer number) times = true
+  proper (HoldTap n timeout hold tap) times = leb timeout (times .first) && (holdable hold times && closed tap)
 
-  pub legalAll : Actions → Times → Bool
-  legalAll end times = true
-  legalAll (action & actions) times = ((closed action || isEnd actions) && legal action times) && legalAll actions times
+  pub properAll : Actions → Times → Bool
+  properAll end times = true
+  properAll (action & actions) times = ((closed action || isEnd actions) && proper action times) && properAll actions times

@@ -5,20 +5,20 @@ use mathlib.Core.Path.{_≡_}
 use mathlib.Core.Bool.{true}
 use mathlib.Core.List.{List, []}
 use lib.ListN.{getD}
-use Rattle.image.specs.Legal.{Times, legal}
+use Rattle.image.specs.Proper.{Times, proper}
 use Rattle.image.specs.Sound.{Sound}
 use Rattle.image.specs.Table.{Table, tableOf, timesOf}
 use Rattle.image.proofs.Accepted.{times-word}
 use Rattle.layout.specs.Model.{Model, Idle}
-use Rattle.layout.proofs.Limits.{legal-cells}
+use Rattle.layout.proofs.Limits.{proper-cells}
 
 -- every action of the table keeps the open rule, and no hold time passes the longest, which is a word
-pub record Legal (table : Table) (times : Times) : Type 0 where
+pub record Proper (table : Table) (times : Times) : Type 0 where
   pub word : times .first ≤ 65535
-  pub cells : (layer row column : ℕ) → legal (table .cell layer row column) times ≡ true
+  pub cells : (layer row column : ℕ) → proper (table .cell layer row column) times ≡ true
 
-pub legal-image : (img : List ℕ) → ((i : ℕ) → getD img i 0 < 256) → Sound img → Legal (tableOf img) (timesOf img)
-legal-image img bytes s = record { word = times-word img s bytes; cells = legal-cells img s }
+pub proper-image : (img : List ℕ) → ((i : ℕ) → getD img i 0 < 256) → Sound img → Proper (tableOf img) (timesOf img)
+proper-image img bytes s = record { word = times-word img s bytes; cells = proper-cells img s }
 
 -- the queue is empty and nothing waits
 pub record Quiet (l : Model) : Type 0 where
