@@ -11,10 +11,10 @@ use Rattle.image.specs.Words.{layersOf}
 use Rattle.image.specs.Sound.{Sound}
 use Rattle.image.specs.Table.{tableOf, treeIn}
 use Rattle.image.specs.declared.record.Cell.{Cell}
-use Rattle.layout.specs.Model.{Queued, Model, Done, withWaiting}
+use Rattle.layout.specs.Model.{Queued, Model, Done, ageOf, withWaiting}
 use Rattle.layout.specs.Actions.{find}
-use Rattle.layout.specs.Steps.{codes, pressed, into, tickWait}
-use Rattle.layout.specs.Packed.{pad, noSlot, noStacked, statesIn, listIn, waitingOf, waitsAt, modelOf, unpack}
+use Rattle.layout.specs.Steps.{codes, pressed, act, into, tickWait}
+use Rattle.layout.specs.Packed.{pad, noSlot, noStacked, statesIn, queuedOf, listIn, waitingOf, waitsAt, modelOf, unpack}
 use Rattle.layout.specs.Notes.{noNotes, noted}
 use Rattle.layout.specs.Calls.{judgedOf}
 use Rattle.layout.specs.declared.active.Active.{Active}
@@ -22,6 +22,7 @@ use Rattle.layout.specs.declared.active.WaitingState.{WaitingState}
 use Rattle.layout.specs.declared.active.Waiting.the-variants as waiting
 use Rattle.layout.specs.declared.notes.Notes.{Notes}
 use Rattle.layout.specs.declared.notes.Way.{Way}
+use Rattle.layout.specs.declared.queue.Stacked.{Stacked}
 use Rattle.layout.specs.declared.queue.Queue.{Queue}
 use Rattle.layout.specs.declared.action.Setting.{Setting}
 use Rattle.layout.specs.declared.effect.Progress.{Progress}
@@ -68,7 +69,10 @@ settingOf layers queue c = record { layers = layers; coord = c; delay = 0; found
 abbrev pub PressedTo : List ℕ → Active → Coord → Cell → Type 0
 PressedTo img active c cell = (q : List Queued) → treeIn img cell ≡ pressed (tableOf img) c (modelOf img active q)
 
--- what waits becomes tap or hold; and a tick of it
+-- a queued event is acted on, with its age; what waits becomes tap or hold; and a tick of it
+abbrev pub unstacked : List ℕ → Stacked → Model → Done
+unstacked img s l = act (tableOf img) (s .event) (ageOf (queuedOf s)) l
+
 abbrev pub becomes : List ℕ → Way → WaitingState → Model → Done
 becomes img way w l = into way (tableOf img) (waitingOf img (waiting.On w)) l
 

@@ -32,9 +32,9 @@ ghost use Prim.Native.Nat.{ℕ};
 ghost use mathlib.Core.List.{List};
 ghost use Rattle.image.specs.Sound.{Sound};
 ghost use Rattle.image.specs.Table.{tableOf};
-ghost use Rattle.layout.specs.Steps.{act, releases, released as releasedOf, overflow as overflowOf};
+ghost use Rattle.layout.specs.Steps.{releases, released as releasedOf, overflow as overflowOf};
 ghost use Rattle.layout.specs.Packed.{waitingOf, queuedOf};
-ghost use Rattle.layout.specs.Inside.{Tidy, Lined, Ready, PressedTo, Steps, settingOf, waitedOne};
+ghost use Rattle.layout.specs.Inside.{Tidy, Lined, Ready, PressedTo, Steps, settingOf, unstacked, waitedOne};
 
 // The record that a press runs: Trans takes the default layer's cell. Outside the table there is none.
 fn press_as_action(image: &[u8], active: Active, coord: Coord) -> Cell
@@ -62,7 +62,7 @@ pub(crate) fn unstack(
     stacked: Stacked,
 ) -> Progress
     requires { ⌜ Ready (now image) layers active queue ⌝ }
-    ensures { λ r. ⌜ Steps (now (image .entry)) active notes r queue (act (tableOf (now (image .entry))) (stacked .event) (stacked .since)) ⌝ }
+    ensures { λ r. ⌜ Steps (now (image .entry)) active notes r queue (unstacked (now (image .entry)) stacked) ⌝ }
 {
     let event = stacked.event;
     let since = stacked.since;
