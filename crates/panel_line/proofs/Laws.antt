@@ -12,9 +12,9 @@ use lib.Seq.{drop-cons, take-length}
 use Rattle.codes.specs.Report.{reportOf}
 use Rattle.text.specs.Text.{hexOf}
 use Rattle.text.specs.Reply.{refusedLine}
-use Rattle.text.specs.Number.{numberOf, numberWithin}
-use Rattle.text.specs.declared.digits.Number.{Number}
-use Rattle.text.specs.declared.digits.Number.the-variants.{Value, Unread}
+use Rattle.number.specs.Number.{numberOf, numberWithin}
+use Rattle.number.specs.declared.Number.{Number}
+use Rattle.number.specs.declared.Number.the-variants.{Value, Unread}
 use Rattle.panel_line.specs.Line.{spaceAt, pair, coordsOf, pressAt, releaseAt, opens, lineOf}
 use Rattle.panel_line.specs.Print.{answerLine}
 use Rattle.panel_line.specs.declared.Coords.the-variants.{At, Nowhere}

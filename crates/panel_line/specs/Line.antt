@@ -7,9 +7,9 @@ use lib.Dec.{eqb}
 use lib.ListN.{length, getD, take, drop}
 use Rattle.event.specs.Bytes.{bytesOf}
 use Rattle.event.specs.declared.Event.the-variants.{Press, Release}
-use Rattle.text.specs.Number.{numberWithin}
-use Rattle.text.specs.declared.digits.Number.{Number}
-use Rattle.text.specs.declared.digits.Number.the-variants as number
+use Rattle.number.specs.Number.{numberWithin}
+use Rattle.number.specs.declared.Number.{Number}
+use Rattle.number.specs.declared.Number.the-variants as number
 use Rattle.panel_line.specs.declared.Coords.{Coords}
 use Rattle.panel_line.specs.declared.Coords.the-variants.{At, Nowhere}
 use Rattle.panel_line.specs.declared.Line.{Line}

@@ -4,9 +4,9 @@
 mod print;
 
 use event::Event;
+use number::Number;
+use number::decimal_within;
 pub use print::answer_line;
-use text::Number;
-use text::decimal_within;
 ghost use mathlib.Core.Path.{_≡_};
 ghost use Prim.Native.Nat.{_≤_};
 ghost use lib.ListN.{length, getD};

@@ -1,7 +1,7 @@
 // The words of a script's line, parted by single spaces, and what they say: numbers, bytes in hex, a picture.
 // Everything is read strictly (docs/REPLAY.md). Assumes nothing.
-use text::Number;
-use text::decimal_within;
+use number::Number;
+use number::decimal_within;
 ghost use Prim.Native.Nat.{_≤_};
 ghost use mathlib.Core.Path.{_≡_};
 ghost use lib.ListN.{length};

@@ -4,9 +4,6 @@ use mathlib.Core.List.{List}
 use Prim.Native.Nat.{ℕ}
 use denote.Ref.{now}
 use Rattle.decides.specs.Decides.{Decides, DecidesAs, both}
-use Rattle.text.proofs.Read.{number-one}
-use Rattle.text.proofs.digits.decimal as I
-use Rattle.text.proofs.digits.decimal_within as W
 use Rattle.text.proofs.input.Place.start as S
 use Rattle.text.proofs.input.Place.filled as F
 use Rattle.text.proofs.input.Place.answered as D
@@ -19,12 +16,6 @@ use Rattle.text.proofs.text.Text.put as T
 use Rattle.text.proofs.text.Text.put_all as L
 use Rattle.text.proofs.text.Text.put_hex as X
 use Rattle.text.proofs.text.Text.put_number as B
-
-pub decimal : Decides I.ended (λ M. I.spec) (λ M. I.clauses)
-decimal M 𝓤 H A m r = record { same = refl; free = λ κs a g. refl; only = λ κs a g g′ x x′ ws ws′. both 𝓤 _ _ _ (λ p q. (number-one _ _ (p ∙ sym q), refl)) }
-
-pub decimal-within : Decides W.ended (λ M. W.spec) (λ M. W.clauses)
-decimal-within M 𝓤 H A m r = record { same = refl; free = λ κs a g. refl; only = λ κs a g g′ x x′ ws ws′. both 𝓤 _ _ _ (λ p q. (number-one _ _ (p ∙ sym q), refl)) }
 
 pub start : Decides S.ended (λ M. S.spec) (λ M. S.clauses)
 start M 𝓤 H A m r = record { same = refl; free = λ κs a g. refl; only = λ κs a g g′ x x′ ws ws′. both 𝓤 _ _ _ (λ p q. (p ∙ sym q, refl)) }

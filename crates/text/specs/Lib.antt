@@ -1,4 +1,3 @@
 pub mod Input
-pub mod Number
 pub mod Reply
 pub mod Text

@@ -1,13 +1,9 @@
-// What the programs that answer lines share: lines gathered from what was read, numbers in decimal, and an answer's text, by
-// value. Reading is the programs' own, since no contract can say what comes. Assumes nothing.
-mod digits;
+// What the programs that answer lines share: lines gathered from what was read, and an answer's text, by value. Reading is the
+// programs' own, since no contract can say what comes. Assumes nothing.
 mod input;
 mod reply;
 mod text;
 
-pub use digits::Number;
-pub use digits::decimal;
-pub use digits::decimal_within;
 pub use input::Place;
 pub use input::front;
 pub use input::gather;

@@ -6,7 +6,7 @@ use mathlib.Core.Path.{sym, _∙_}
 use native.Mathlib.Omega.{arith}
 use denote.Ref.{now}
 use lib.Seq.{length-take-le}
-use Rattle.text.proofs.Read.{number-one, within-fits}
+use Rattle.number.proofs.Read.{number-one, within-fits}
 use Rattle.panel_line.proofs.Laws.{coords-none, coords-row, coords-column, coords-both}
 use Rattle.panel_line.proofs.coords_in.Statement.{statement}
 use Rattle.panel_line.proofs.coords_in.Tie as tie

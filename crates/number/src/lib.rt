@@ -1,6 +1,6 @@
 // Numbers written in decimal, read. Assumes nothing.
 ghost use mathlib.Core.Path.{_≡_};
-ghost use Rattle.text.specs.Number.{numberOf, numberWithin, valuesOf};
+ghost use Rattle.number.specs.Number.{numberOf, numberWithin, valuesOf};
 
 pub enum Number {
     Value(u16),

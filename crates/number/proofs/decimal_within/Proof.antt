@@ -1,11 +1,11 @@
--- `text::decimal_within` meets its contract. Assumes nothing.
+-- `number::decimal_within` meets its contract. Assumes nothing.
 use borrow.Author.Needs.{needs}
 use mathlib.Core.Path.{sym, ap, _∙_}
 use denote.Ref.{now}
-use Rattle.text.specs.Number.{valuesOf}
-use Rattle.text.proofs.Read.{number-one, within-long, within-none, within-large, within-good}
-use Rattle.text.proofs.digits.decimal_within.Statement.{statement}
-use Rattle.text.proofs.digits.decimal_within.Tie as tie
+use Rattle.number.specs.Number.{valuesOf}
+use Rattle.number.proofs.Read.{number-one, within-long, within-none, within-large, within-good}
+use Rattle.number.proofs.decimal_within.Statement.{statement}
+use Rattle.number.proofs.decimal_within.Tie as tie
 
 returns : tie.Need-returns
 returns c = let a = c .before .before .args in ap valuesOf (sym (within-long (a .digits) (a .largest) (now (a .word)) (c .if1 .taken)))

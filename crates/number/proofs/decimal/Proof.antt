@@ -1,4 +1,4 @@
--- `text::decimal` meets its contract. The loop's invariant: what the bytes that are left come to behind `n` is the whole answer.
+-- `number::decimal` meets its contract. The loop's invariant: what the bytes that are left come to behind `n` is the whole answer.
 -- Assumes nothing.
 use Prim.Native.Nat.{_+_, _*_, _-_, _<_, _≤_}
 use mathlib.Core.Path.{_≡_, sym, ap, _∙_}
@@ -6,10 +6,10 @@ use borrow.Author.Needs.{needs}
 use denote.Ref.{now}
 use native.Mathlib.Omega.{arith}
 use lib.ListN.{length, getD, drop}
-use Rattle.text.specs.Number.{readBehind, numberOf, valuesOf}
-use Rattle.text.proofs.Read.{number-none, number-some, read-below, read-above, read-on, read-much, read-end}
-use Rattle.text.proofs.digits.decimal.Statement.{statement}
-use Rattle.text.proofs.digits.decimal.Tie as tie
+use Rattle.number.specs.Number.{readBehind, numberOf, valuesOf}
+use Rattle.number.proofs.Read.{number-none, number-some, read-below, read-above, read-on, read-much, read-end}
+use Rattle.number.proofs.decimal.Statement.{statement}
+use Rattle.number.proofs.decimal.Tie as tie
 
 abbrev Inv-loop : tie.InvT-loop
 Inv-loop word n₀ i₀ n i = (i ≤ length word) × (n ≤ 65535) × (numberOf word ≡ readBehind n (drop i word))

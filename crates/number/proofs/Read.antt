@@ -10,9 +10,9 @@ use lib.Dec.{leb}
 use lib.ListN.{length, getD, drop, drop-of-length-le}
 use lib.Seq.{drop-cons}
 use Rattle.lists.specs.Lists.{every}
-use Rattle.text.specs.Number.{isDigit, comesTo, readBehind, numberOf, atMost, numberWithin, valuesOf}
-use Rattle.text.specs.declared.digits.Number.{Number}
-use Rattle.text.specs.declared.digits.Number.the-variants.{Value, Unread}
+use Rattle.number.specs.Number.{isDigit, comesTo, readBehind, numberOf, atMost, numberWithin, valuesOf}
+use Rattle.number.specs.declared.Number.{Number}
+use Rattle.number.specs.declared.Number.the-variants.{Value, Unread}
 
 digit-yes : (c : ℕ) → 48 ≤ c → c ≤ 57 → isDigit c ≡ true
 unfolding isDigit

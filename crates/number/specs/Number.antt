@@ -6,8 +6,8 @@ use mathlib.Core.List.{List, [], _∷_}
 use lib.Dec.{leb}
 use lib.ListN.{length}
 use Rattle.lists.specs.Lists.{every}
-use Rattle.text.specs.declared.digits.Number.{Number}
-use Rattle.text.specs.declared.digits.Number.the-variants.{Value, Unread}
+use Rattle.number.specs.declared.Number.{Number}
+use Rattle.number.specs.declared.Number.the-variants.{Value, Unread}
 
 unfoldable pub isDigit : ℕ → Bool
 isDigit c = leb 48 c && leb c 57
