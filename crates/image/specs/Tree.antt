@@ -7,7 +7,7 @@ use mathlib.Core.Bool.{Bool, true, false, not, _&&_, _||_}
 use lib.ListN.{length, getD}
 use Rattle.image.specs.Words.{entries}
 use Rattle.image.specs.Record.{actionAt}
-use Rattle.image.specs.declared.record.Action.{Action as Record}
+use Rattle.image.specs.declared.record.Action.{Action as Coded}
 use Rattle.image.specs.declared.record.Action.the-variants as code
 
 -- a HoldTap has its record's number, timeout, hold and tap
@@ -32,7 +32,7 @@ named lower [] = end
 named lower (k ∷ ks) = lower k & named lower ks
 
 -- what record n means, where `lower` gives the trees of the records that it names
-unfoldable pub meaning : List ℕ → (ℕ → Action) → ℕ → Record → Action
+unfoldable pub meaning : List ℕ → (ℕ → Action) → ℕ → Coded → Action
 meaning img lower n code.NoOp = NoOp
 meaning img lower n code.Trans = Trans
 meaning img lower n (code.KeyCode key) = KeyCode key

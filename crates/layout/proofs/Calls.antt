@@ -24,7 +24,7 @@ use Rattle.layout.specs.Packed.{pad, noSlot, noStacked, statesIn, queued
 use Rattle.layout.specs.State.{stateGood}
 use Rattle.layout.specs.Notes.{noNotes, noted}
 use Rattle.layout.specs.Calls.{verdictIn, judgedOf, answerOf, layoutAfter, buffered, handed, replied}
-use Rattle.layout.specs.Inside.{Tidy, Lined, Went, Handed}
+use Rattle.layout.specs.Inside.{Tidy, Lined, Handed}
 use Rattle.layout.specs.declared.active.State.{State}
 use Rattle.layout.specs.declared.active.Slot.{Slot}
 use Rattle.layout.specs.declared.active.Active.{Active}
@@ -37,6 +37,7 @@ use Rattle.layout.specs.declared.layout.Layout.{Layout}
 use Rattle.layout.specs.declared.answer.Answer.{Answer}
 use Rattle.layout.specs.declared.answer.Answer.the-variants as answer
 use Rattle.layout.specs.declared.answer.Answered.{Answered}
+use Rattle.layout.proofs.Moves.{Finished}
 use Rattle.layout.proofs.Parts.{held-length, list-length}
 use Rattle.layout.proofs.States.{legal, legal-tidy, legal-lined}
 
@@ -101,15 +102,15 @@ unfolding replied answerOf layoutAfter buffered
 call-refused img lay buffer step v r place a j e f = rw (sym j ∙ e, f)
 
 -- a call that was not
-pub call-went : (img : List ℕ) (lay : Layout) (end : Progress) (queue : Queue) (step : Model → Done) (buffer after : List ℕ) (a : Answered)
-    → Opened img lay (length buffer) → Went img lay end queue (step (unpack img lay)) → Handed end queue a buffer after
+pub call-finished : (img : List ℕ) (lay : Layout) (end : Progress) (queue : Queue) (step : Model → Done) (buffer after : List ℕ) (a : Answered)
+    → Opened img lay (length buffer) → Finished img end queue (step (unpack img lay)) → Handed end queue a buffer after
     → handed a after ≡ replied img step lay buffer
 unfolding replied answerOf layoutAfter buffered
-call-went img lay end queue step buffer after a o w h =
+call-finished img lay end queue step buffer after a o w h =
     let done = step (unpack img lay) in
-    let held : statesIn (end .active) ≡ done .layout .states = ap (λ (m : Model). m .states) (w .is) in
-    let whole : record { active = end .active; queue = queue } ≡ pack (done .layout) = packed img (end .active) queue (w .tidy) (w .lined) ∙ ap pack (w .is) in
+    let held : statesIn (end .active) ≡ done .layout .states = ap (λ (m : Model). m .states) (w .1 .is) in
+    let whole : record { active = end .active; queue = queue } ≡ pack (done .layout) = packed img (end .active) queue (w .1 .tidy) (w .0) ∙ ap pack (w .1 .is) in
     let answers : a ≡ record { answer = answer.Done (length (codes (done .layout .states))) (noted noNotes done); layout = pack (done .layout) } =
-    h .0 ∙ (λ i. record { answer = answer.Done (length (codes (held i))) (w .notes i); layout = whole i }) in
+    h .0 ∙ (λ i. record { answer = answer.Done (length (codes (held i))) (w .1 .notes i); layout = whole i }) in
     let bytes : after ≡ laid (codes (done .layout .states)) buffer = h .1 ∙ ap (λ (s : List State). laid (codes s) buffer) held in
     rw (o .fine) (λ i. handed (answers i) (bytes i))

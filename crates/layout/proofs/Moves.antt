@@ -1,7 +1,7 @@
 -- Laws of the steps of a layout, by cases, and of the stages of a call that come by them. Assumes nothing.
 --     did-nothing, did-moves, did-acted     a stage with one part changed, and the step that it is
 --     did-as, did-then                      the same step by another name; one step after another
---     went-did, tick-goes, event-goes       a whole call
+--     Finished, finished, tick-goes, event-goes     a whole call
 use mathlib.Core.Path.{_≡_, refl, sym, ap, subst, _∙_}
 use mathlib.Core.Bool.{true, false}
 use mathlib.Core.List.{List, [], _∷_}
@@ -19,7 +19,7 @@ use Rattle.layout.specs.Actions.{decided}
 use Rattle.layout.specs.Steps.{act, into, intoHold, intoTap, releases, released, overflow, appended, entered, event, older, tickWait, ticked, tick}
 use Rattle.layout.specs.Packed.{listIn, waitingOf, waitsAt, modelOf, unpack}
 use Rattle.layout.specs.Notes.{noNotes, noteActed, noted, notedMarks}
-use Rattle.layout.specs.Inside.{Tidy, Lined, Moves, Did, Steps, Went, settingOf, becomes, waitedOne}
+use Rattle.layout.specs.Inside.{Tidy, Lined, Moves, Did, Steps, settingOf, becomes, waitedOne}
 use Rattle.layout.specs.Effects.{effectOf, Settled, Grown}
 use Rattle.layout.specs.declared.active.Active.{Active}
 use Rattle.layout.specs.declared.active.WaitingState.{WaitingState}
@@ -35,6 +35,10 @@ use Rattle.layout.specs.declared.effect.Progress.{Progress}
 use Rattle.layout.specs.declared.layout.Layout.{Layout}
 use Rattle.layout.proofs.Noted.{noted-append}
 use Rattle.layout.proofs.Effects.{did-effect}
+
+-- a call that began with no notes has come to its end by a step, with this queue
+abbrev pub Finished : List ℕ → Progress → Queue → Done → Type 0
+Finished img end queue done = Lined queue × Did img noNotes end (listIn queue) done
 
 module _ (img : List ℕ) where
   pub did-nothing : (active : Active) (notes : Notes) (q : List Queued) → Tidy active → Did img notes (record { active = active; notes = notes }) q (still (modelOf img active q))
@@ -64,14 +68,14 @@ module _ (img : List ℕ) where
       }
 
   -- a call that began with no notes, and a queue that holds the list l
-  pub went-did : (lay : Layout) (none : Notes) (end : Progress) (queue : Queue) (l : List Queued) (f : Model → Done) → none ≡ noNotes → Lined queue → listIn queue ≡ l
-      → Steps img (lay .active) none end queue f → Went img lay end queue (f (withQueue l (unpack img lay)))
-  went-did lay none end queue l f en t e d =
-      subst (λ (x : List Queued). Went img lay end queue (f (modelOf img (lay .active) x))) e
-      (record { tidy = d .tidy; lined = t; is = d .is; notes = d .notes ∙ ap (λ (n : Notes). noted n (f (modelOf img (lay .active) (listIn queue)))) en })
+  pub finished : (lay : Layout) (none : Notes) (end : Progress) (queue : Queue) (l : List Queued) (f : Model → Done) → none ≡ noNotes → Lined queue → listIn queue ≡ l
+      → Steps img (lay .active) none end queue f → Finished img end queue (f (withQueue l (unpack img lay)))
+  finished lay none end queue l f en t e d =
+      let listed : Did img none end (listIn queue) (f (modelOf img (lay .active) l)) = subst (λ (x : List Queued). Did img none end (listIn queue) (f (modelOf img (lay .active) x))) e d in
+      (t, subst (λ (n : Notes). Did img n end (listIn queue) (f (modelOf img (lay .active) l))) en listed)
 
-  pub went-as : {lay : Layout} {end : Progress} {queue : Queue} {x y : Done} → Went img lay end queue x → x ≡ y → Went img lay end queue y
-  went-as {lay} {end} {queue} w e = subst (Went img lay end queue) e w
+  pub finished-as : {end : Progress} {queue : Queue} {x y : Done} → Finished img end queue x → x ≡ y → Finished img end queue y
+  finished-as w e = (w .0, did-as (w .1) e)
 
 -- an event entered, where there is room and where there is not
 module _ (T : Table) (e : Event) where
@@ -161,17 +165,17 @@ module _ (img : List ℕ) (active : Active) (notes : Notes) (queue : Queue) (w :
 
 -- a tick of a whole layout, where something waits
 pub tick-goes : (img : List ℕ) (lay : Layout) (none : Notes) (w : WaitingState) (queue : Queue) (end : Progress) → none ≡ noNotes → lay .active .waiting ≡ waiting.On w → Lined queue → listIn queue ≡ older (listIn (lay .queue))
-    → Steps img (lay .active) none end queue (waitedOne img w) → Went img lay end queue (tick (tableOf img) (unpack img lay))
+    → Steps img (lay .active) none end queue (waitedOne img w) → Finished img end queue (tick (tableOf img) (unpack img lay))
 tick-goes img lay none w queue end en e t eq d =
-    went-as img (went-did img lay none end queue (older (listIn (lay .queue))) (waitedOne img w) en t eq d)
+    finished-as img (finished img lay none end queue (older (listIn (lay .queue))) (waitedOne img w) en t eq d)
     (sym (tick-on (tableOf img) (unpack img lay) (w .coord) (w .left) (w .number) _ _ (ap (waitingOf img) e)))
 
 -- an event of a whole layout: it is entered by a step, and then what waits for its release becomes tap
 pub event-goes : (img : List ℕ) (lay : Layout) (none : Notes) (e : Event) (queue : Queue) (end : Progress) (l : List Queued) (enter : Model → Done) → none ≡ noNotes → Lined queue → listIn queue ≡ l
     → entered (tableOf img) e (listIn (lay .queue)) (unpack img lay) ≡ enter (withQueue l (unpack img lay))
     → Steps img (lay .active) none end queue (λ (m : Model). after (enter m) (released (tableOf img) e (enter m .layout)))
-    → Went img lay end queue (event (tableOf img) e (unpack img lay))
+    → Finished img end queue (event (tableOf img) e (unpack img lay))
 unfolding event
 event-goes img lay none e queue end l enter en t el eq d =
-    went-as img (went-did img lay none end queue l (λ (m : Model). after (enter m) (released (tableOf img) e (enter m .layout))) en t el d)
+    finished-as img (finished img lay none end queue l (λ (m : Model). after (enter m) (released (tableOf img) e (enter m .layout))) en t el d)
     (sym (ap (λ (r : Done). after r (released (tableOf img) e (r .layout))) eq))

@@ -10,7 +10,7 @@ use Rattle.image.specs.Record.{cellAt}
 use Rattle.image.specs.Tree.{Action, Trans, tree}
 use Rattle.image.specs.Table.{tableOf, treeIn}
 use Rattle.image.specs.declared.record.Cell.{Cell}
-use Rattle.image.specs.declared.record.Cell.the-variants.{Record, Outside}
+use Rattle.image.specs.declared.record.Cell.the-variants as named
 use Rattle.layout.specs.Model.{Queued, Model, still, withStates}
 use Rattle.layout.specs.Actions.{find, doAction}
 use Rattle.layout.specs.Steps.{held, current, orDefault, pressed, release, act}
@@ -29,17 +29,17 @@ module _ (img : List ℕ) (c : Coord) (l : Model) (k : ℕ) (cell : Cell) (e : k
   found-there = rw (f, e)
 
   -- outside the table a press does NoOp
-  pub press-outside : cell ≡ Outside → treeIn img Outside ≡ pressed (tableOf img) c l
+  pub press-outside : cell ≡ named.Outside → treeIn img named.Outside ≡ pressed (tableOf img) c l
   unfolding treeIn
   press-outside h = ap (λ (x : Cell). orDefault (treeIn img x) (treeIn img (cellAt img (l .base) (c .i) (c .j)))) (sym h) ∙ found-there
 
   -- Trans takes the default layer's cell
-  pub press-trans : (n : ℕ) → cell ≡ Record n → tree img n ≡ Trans → treeIn img (cellAt img (l .base) (c .i) (c .j)) ≡ pressed (tableOf img) c l
+  pub press-trans : (n : ℕ) → cell ≡ named.Record n → tree img n ≡ Trans → treeIn img (cellAt img (l .base) (c .i) (c .j)) ≡ pressed (tableOf img) c l
   unfolding treeIn
   press-trans n h t = ap (λ (x : Action). orDefault x (treeIn img (cellAt img (l .base) (c .i) (c .j)))) (sym (ap (treeIn img) h ∙ t)) ∙ found-there
 
   -- another action is the press's own
-  pub press-own : (n : ℕ) → cell ≡ Record n → orDefault (tree img n) (treeIn img (cellAt img (l .base) (c .i) (c .j))) ≡ tree img n → treeIn img (Record n) ≡ pressed (tableOf img) c l
+  pub press-own : (n : ℕ) → cell ≡ named.Record n → orDefault (tree img n) (treeIn img (cellAt img (l .base) (c .i) (c .j))) ≡ tree img n → treeIn img (named.Record n) ≡ pressed (tableOf img) c l
   unfolding treeIn
   press-own n h t = sym t ∙ ap (λ (x : Cell). orDefault (treeIn img x) (treeIn img (cellAt img (l .base) (c .i) (c .j)))) (sym h) ∙ found-there
 

@@ -15,7 +15,7 @@ use Rattle.layout.specs.Model.{Queued, Model, Done, ageOf, withWaiting}
 use Rattle.layout.specs.Actions.{find}
 use Rattle.layout.specs.Steps.{codes, pressed, act, into, tickWait}
 use Rattle.layout.specs.Packed.{pad, noSlot, noStacked, statesIn, queuedOf, listIn, waitingOf, waitsAt, modelOf, unpack}
-use Rattle.layout.specs.Notes.{noNotes, noted}
+use Rattle.layout.specs.Notes.{noted}
 use Rattle.layout.specs.Calls.{judgedOf}
 use Rattle.layout.specs.declared.active.Active.{Active}
 use Rattle.layout.specs.declared.active.WaitingState.{WaitingState}
@@ -78,13 +78,6 @@ becomes img way w l = into way (tableOf img) (waitingOf img (waiting.On w)) l
 
 abbrev pub waitedOne : List ℕ → WaitingState → Model → Done
 waitedOne img w l = tickWait (tableOf img) (w .left - 1) (withWaiting (waitingOf img (waitsAt (w .coord) (w .left - 1) (w .number))) l)
-
--- a call that began on a layout has come to an end by a step, with this queue
-pub record Went (img : List ℕ) (lay : Layout) (end : Progress) (queue : Queue) (done : Done) : Type 0 where
-  pub tidy : Tidy (end .active)
-  pub lined : Lined queue
-  pub is : modelOf img (end .active) (listIn queue) ≡ done .layout
-  pub notes : end .notes ≡ noted noNotes done
 
 -- what a call judges, and how many layers it goes on with
 pub record JudgedSo (img : List ℕ) (lay : Layout) (room : ℕ) (judged : Judged) : Type 0 where

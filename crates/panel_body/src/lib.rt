@@ -96,9 +96,9 @@ fn reply(image: &[u8], layout: Layout, line: &[u8]) -> Layout {
 }
 
 // A step of reading, and the answer to the line that is held, where it ended.
-fn step(image: &[u8], input: &mut [u8; INPUT], line: &mut [u8; LINE], now: Stand) -> Stand {
-    let layout = now.layout;
-    let before = now.place;
+fn step(image: &[u8], input: &mut [u8; INPUT], line: &mut [u8; LINE], stand: Stand) -> Stand {
+    let layout = stand.layout;
+    let before = stand.place;
     let place = advance(input, line, before);
     if !place.ended {
         return Stand { layout, place };
@@ -112,15 +112,15 @@ fn step(image: &[u8], input: &mut [u8; INPUT], line: &mut [u8; LINE], now: Stand
 // Answers lines to the end of the input. Nothing says that it has one, so the loop counts its turns down from a number
 // that no run uses up.
 fn answer_all(image: &[u8], input: &mut [u8; INPUT], line: &mut [u8; LINE]) {
-    let mut now = Stand {
+    let mut stand = Stand {
         layout: Layout::new(),
         place: Place::start(),
     };
     let mut turns = u64::MAX;
     let mut over = false;
     while turns > 0 && !over {
-        now = step(image, input, line, now);
-        let place = now.place;
+        stand = step(image, input, line, stand);
+        let place = stand.place;
         over = place.over;
         turns -= 1;
     }

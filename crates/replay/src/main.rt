@@ -198,10 +198,10 @@ fn step(
     input: &mut [u8; INPUT],
     line: &mut [u8; LINE],
     table: &mut [u8; table::ROOM],
-    now: Stand,
+    stand: Stand,
 ) -> Stand {
-    let desk = now.desk;
-    let before = now.place;
+    let desk = stand.desk;
+    let before = stand.place;
     let place = advance(input, line, before);
     if !place.ended {
         return Stand { desk, place };
@@ -215,15 +215,15 @@ fn step(
 // Answers lines to the end of the input. Nothing says that it has one, so the loop counts its turns down from a number
 // that no run uses up.
 fn run(input: &mut [u8; INPUT], line: &mut [u8; LINE], table: &mut [u8; table::ROOM]) {
-    let mut now = Stand {
+    let mut stand = Stand {
         desk: start(),
         place: Place::start(),
     };
     let mut turns = u64::MAX;
     let mut over = false;
     while turns > 0 && !over {
-        now = step(input, line, table, now);
-        let place = now.place;
+        stand = step(input, line, table, stand);
+        let place = stand.place;
         over = place.over;
         turns -= 1;
     }

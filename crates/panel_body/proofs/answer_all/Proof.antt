@@ -5,10 +5,10 @@ use Rattle.panel_body.proofs.answer_all.Statement.{statement}
 use Rattle.panel_body.proofs.answer_all.Tie as tie
 
 abbrev Inv-loop : tie.InvT-loop
-Inv-loop image input₀ line₀ now₀ turns₀ over₀ input line now turns over = 0 ≤ turns
+Inv-loop image input₀ line₀ stand₀ turns₀ over₀ input line stand turns over = 0 ≤ turns
 
 abbrev μ-loop : tie.MeasureT-loop
-μ-loop image input₀ line₀ now₀ turns₀ over₀ input line now turns over = turns
+μ-loop image input₀ line₀ stand₀ turns₀ over₀ input line stand turns over = turns
 
 pub answer-all-spec : {M : Type 1} → statement M
 answer-all-spec =

@@ -17,7 +17,7 @@ use Rattle.layout.specs.declared.queue.Queue.{Queue}
 use Rattle.layout.specs.declared.effect.Progress.{Progress}
 use Rattle.layout.proofs.Parts.{list-length}
 use Rattle.layout.proofs.Moves.{did-nothing, did-as, did-then, entered-room, entered-full, released-no, event-goes}
-use Rattle.layout.proofs.Calls.{Opened, opened, call-refused, call-went}
+use Rattle.layout.proofs.Calls.{Opened, opened, call-refused, call-finished}
 use Rattle.layout.proofs.layout.Layout.event.Statement.{statement}
 use Rattle.layout.proofs.layout.Layout.event.Tie as tie
 
@@ -85,7 +85,7 @@ returns-2 c =
     let long = list-length (lay .queue) (o .lined) in
     let stays = did-nothing img (lay .active) (n .no-notes .result) q (o .tidy) in
     let none : releases e (waitingOf img (lay .active .waiting)) ≡ false = sym (w .releases-waiting .ensures img) ∙ not-true _ (b .before .before .if2 .taken) in
-    call-went img lay (begun n) (a .append .result) (event T e) (s .args .out .now) _ (b .answer-of .result) o
+    call-finished img lay (begun n) (a .append .result) (event T e) (s .args .out .now) _ (b .answer-of .result) o
     (event-goes img lay (n .no-notes .result) e (a .append .result) (begun n) (appended e (listIn (lay .queue))) still (n .no-notes .ensures) (a .append .ensures .0) (a .append .ensures .1)
     (entered-room T e (listIn (lay .queue)) (unpack img lay) (omega (arith, long, t .if1 .taken)))
     (did-then img (released T e) stays (did-as img stays (sym (released-no T e (modelOf img (lay .active) q) none)))))
@@ -119,7 +119,7 @@ returns-3 c =
     let e = s .args .event in
     let T = tableOf img in
     let long = list-length (lay .queue) (o .lined) in
-    call-went img lay (r .tap-released .result) (a .append .result) (event T e) (s .args .out .now) _ (b .answer-of2 .result) o
+    call-finished img lay (r .tap-released .result) (a .append .result) (event T e) (s .args .out .now) _ (b .answer-of2 .result) o
     (event-goes img lay (n .no-notes .result) e (a .append .result) (r .tap-released .result) (appended e (listIn (lay .queue))) still (n .no-notes .ensures) (a .append .ensures .0) (a .append .ensures .1)
     (entered-room T e (listIn (lay .queue)) (unpack img lay) (omega (arith, long, t .if1 .taken)))
     (did-then img (released T e) (did-nothing img (lay .active) (n .no-notes .result) (listIn (a .append .result)) (o .tidy)) (r .tap-released .ensures)))
@@ -177,7 +177,7 @@ returns-4 c =
     let old = getD (lay .queue .stacked) 0 noStacked in
     let long = list-length (lay .queue) (o .lined) in
     let first : queuedOf old ≡ getD q 0 (queuedOf noStacked) = ap queuedOf (sym (getD-take (lay .queue .queued) (lay .queue .stacked) 0 noStacked (omega (arith, l .if1 .left)))) ∙ sym (List·getD-map queuedOf (take (lay .queue .queued) (lay .queue .stacked)) 0 noStacked) in
-    call-went img lay (r .tap-released2 .result) (a .append2 .result) (event T e) (s .args .out .now) _ (b .answer-of3 .result) o
+    call-finished img lay (r .tap-released2 .result) (a .append2 .result) (event T e) (s .args .out .now) _ (b .answer-of3 .result) o
     (event-goes img lay (n .no-notes .result) e (a .append2 .result) (r .tap-released2 .result) (appended e (drop 1 q)) (overflow T (queuedOf old)) (n .no-notes .ensures) (a .append2 .ensures .0) (a .append2 .ensures .1 ∙ ap (appended e) (f .shift .ensures .1))
     (entered-full T e q (unpack img lay) (queuedOf noStacked) (omega (arith, long, l .if1 .left)) ∙ sym (ap (λ (x : Queued). overflow T x (modelOf img (lay .active) (appended e (drop 1 q)))) first))
     (did-then img (released T e) (v .overflow .ensures) (r .tap-released2 .ensures)))

@@ -16,8 +16,8 @@ use Rattle.layout.specs.declared.active.Active.{Active}
 use Rattle.layout.specs.declared.queue.Queue.{Queue}
 use Rattle.layout.specs.declared.effect.Progress.{Progress}
 use Rattle.layout.proofs.Parts.{list-length}
-use Rattle.layout.proofs.Moves.{did-nothing, went-did, went-as, tick-none, tick-some, tick-goes}
-use Rattle.layout.proofs.Calls.{Opened, opened, call-refused, call-went}
+use Rattle.layout.proofs.Moves.{did-nothing, finished, finished-as, tick-none, tick-some, tick-goes}
+use Rattle.layout.proofs.Calls.{Opened, opened, call-refused, call-finished}
 use Rattle.layout.proofs.layout.Layout.tick.Statement.{statement}
 use Rattle.layout.proofs.layout.Layout.tick.Tie as tie
 
@@ -79,8 +79,8 @@ returns-2 c =
     let img = s .args .image .now in
     let lay = s .args .self in
     let long = list-length (a .age .result) (a .age .ensures .0) in
-    call-went img lay (begun n) (a .age .result) (tick (tableOf img)) (s .args .out .now) _ (b .answer-of .result) o
-    (went-as img (went-did img lay (n .no-notes .result) (begun n) (a .age .result) (older (listIn (lay .queue))) still (n .no-notes .ensures) (a .age .ensures .0) (a .age .ensures .1) (did-nothing img (lay .active) (n .no-notes .result) (listIn (a .age .result)) (o .tidy)))
+    call-finished img lay (begun n) (a .age .result) (tick (tableOf img)) (s .args .out .now) _ (b .answer-of .result) o
+    (finished-as img (finished img lay (n .no-notes .result) (begun n) (a .age .result) (older (listIn (lay .queue))) still (n .no-notes .ensures) (a .age .ensures .0) (a .age .ensures .1) (did-nothing img (lay .active) (n .no-notes .result) (listIn (a .age .result)) (o .tidy)))
     (sym (tick-none (tableOf img) (unpack img lay) (ap (waitingOf img) (t .before .enum-told3 .given .1)) (sym (ap length (a .age .ensures .1)) ∙ long ∙ t .if1 .taken))))
     (b .answer-of .ensures)
 
@@ -116,8 +116,8 @@ returns-3 c =
     let some : 0 < a .age .result .queued = omega (arith, l .if1 .left) in
     let first : queuedOf old ≡ getD q 0 (queuedOf noStacked) =
     ap queuedOf (sym (getD-take (a .age .result .queued) (a .age .result .stacked) 0 noStacked some)) ∙ sym (List·getD-map queuedOf (take (a .age .result .queued) (a .age .result .stacked)) 0 noStacked) ∙ ap (λ (x : List Queued). getD x 0 (queuedOf noStacked)) (a .age .ensures .1) in
-    call-went img lay (u .unstack .result) (f .shift .result) (tick T) (s .args .out .now) _ (b .answer-of2 .result) (opens (n .before))
-    (went-as img (went-did img lay (n .no-notes .result) (u .unstack .result) (f .shift .result) (drop 1 q) (act T (old .event) (old .since)) (n .no-notes .ensures) (f .shift .ensures .0) (f .shift .ensures .1 ∙ ap (drop 1) (a .age .ensures .1)) (u .unstack .ensures))
+    call-finished img lay (u .unstack .result) (f .shift .result) (tick T) (s .args .out .now) _ (b .answer-of2 .result) (opens (n .before))
+    (finished-as img (finished img lay (n .no-notes .result) (u .unstack .result) (f .shift .result) (drop 1 q) (act T (old .event) (old .since)) (n .no-notes .ensures) (f .shift .ensures .0) (f .shift .ensures .1 ∙ ap (drop 1) (a .age .ensures .1)) (u .unstack .ensures))
     (ap (λ (x : Queued). act T (x .event) (ageOf x) (modelOf img (lay .active) (drop 1 q))) first
     ∙ sym (tick-some T (unpack img lay) (ap (waitingOf img) (l .before .enum-told3 .given .1)) (omega (arith, ap length (a .age .ensures .1))) (queuedOf noStacked))))
     (b .answer-of2 .ensures)
@@ -146,7 +146,7 @@ returns-4 c =
     let n = a .before in
     let s = start (judged (n .before)) in
     let img = s .args .image .now in
-    call-went img (s .args .self) (t .tick-waiting .result) (a .age .result) (tick (tableOf img)) (s .args .out .now) _ (b .answer-of3 .result) (opens (n .before))
+    call-finished img (s .args .self) (t .tick-waiting .result) (a .age .result) (tick (tableOf img)) (s .args .out .now) _ (b .answer-of3 .result) (opens (n .before))
     (tick-goes img (s .args .self) (n .no-notes .result) _ (a .age .result) (t .tick-waiting .result) (n .no-notes .ensures) (w .waiting .given .1) (a .age .ensures .0) (a .age .ensures .1) (t .tick-waiting .ensures))
     (b .answer-of3 .ensures)
 
