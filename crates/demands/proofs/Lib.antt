@@ -9,6 +9,6 @@ pub mod Answers
 pub mod OnLists
 pub mod Replies
 pub mod Demand3
-pub mod Reached
+pub mod Witness
 pub mod Bench
 pub mod Ties

@@ -5,6 +5,6 @@ pub mod Public
 pub mod Limits
 pub mod Demand3
 pub mod Z
-pub mod Reached
+pub mod Witness
 pub mod Bench
 pub mod Ties

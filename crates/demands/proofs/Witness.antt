@@ -30,7 +30,7 @@ use Rattle.demands.specs.Demand3.{boundOf, left, Demand3, OfFresh}
 use Rattle.demands.specs.Public.{Lent, callsOf, ticksOn, lentAll, Roomy}
 use Rattle.layout.specs.Packed.{pack}
 use Rattle.demands.specs.Z.{zOf, lent}
-use Rattle.demands.specs.Reached.{seventeen, tapped, Asked, BoundReached, Met}
+use Rattle.demands.specs.Witness.{seventeen, tapped, Asked, BoundReached, Met}
 use Rattle.layout.specs.Reach.{waitsIn, FreshStarts}
 use Rattle.layout.proofs.Reach.{fresh-starts}
 use Rattle.demands.proofs.Proper.{Quiet}
@@ -94,8 +94,8 @@ bound-z t q ks e = rw (tied-z t (lentAll lent ks) (lent-roomy lent ks lent-room)
 left-z : (t : ℕ) (ks : List Call) (n : ℕ) → left (zOf t) fresh (lentAll lent ks) (replicate n lent) ≡ pack (drain (tableOf (zOf t)) fresh ks n .layout)
 left-z t ks n = tied-drain t ks n .layout ∙ rw (calls-z ks n)
 
-pub reached : BoundReached
-reached =
+pub bound-reached : BoundReached
+bound-reached =
     record {
       asked = asked 1 (omega arith);
       most = bound-z 1 16 seventeen (computed .queued);
@@ -123,8 +123,8 @@ settles : (image : List ℕ) (calls : List Call) → Asked image lent → Demand
 unfolding OfFresh
 settles image calls a = of-fresh image (shapeOf image) (a .bytes) (a .accepted) (lentAll lent calls) (lent-roomy lent calls (a .room))
 
-pub reached-settles : Demand3 (zOf 1) fresh (lentAll lent seventeen)
-reached-settles = settles (zOf 1) seventeen (reached .asked)
+pub bound-reached-settles : Demand3 (zOf 1) fresh (lentAll lent seventeen)
+bound-reached-settles = settles (zOf 1) seventeen (bound-reached .asked)
 
 pub met-settles : Demand3 (zOf 3) fresh (lentAll lent tapped)
 met-settles = settles (zOf 3) tapped (met .asked)
