@@ -67,29 +67,29 @@ put-behind out out₀ bytes rest all k room so-far past =
     )
 
 -- one turn of the loop that tells the events: the place's event, if any, behind those that stand in the buffer
-pub tell-turn : (columns place told told′ : ℕ) (before after out out₀ out′ : List ℕ) (all : List Event)
-    → place < length before → place < length after → told ≤ place → 3 * told + 3 ≤ length out → length out ≡ length out₀
-    → told + length (changes columns place (drop place before) (drop place after)) ≡ length all
-    → take (3 * told) out ++ written (changes columns place (drop place before) (drop place after)) ≡ written all
-    → drop (3 * told) out ≡ drop (3 * told) out₀
-    → told′ ≡ told + length (changeAt columns place (getD before place 0) (getD after place 0))
-    → out′ ≡ sets out (3 * told) (written (changeAt columns place (getD before place 0) (getD after place 0)))
-    → (told′ ≤ place + 1) × (length out′ ≡ length out₀)
-    × (told′ + length (changes columns (place + 1) (drop (place + 1) before) (drop (place + 1) after)) ≡ length all)
-    × (take (3 * told′) out′ ++ written (changes columns (place + 1) (drop (place + 1) before) (drop (place + 1) after)) ≡ written all)
-    × (drop (3 * told′) out′ ≡ drop (3 * told′) out₀)
-tell-turn columns place told told′ before after out out₀ out′ all in-before in-after few room same-long many so-far past is put =
+pub tell-turn : (columns place count more : ℕ) (before after out out₀ out′ : List ℕ) (all : List Event)
+    → place < length before → place < length after → count ≤ place → 3 * count + 3 ≤ length out → length out ≡ length out₀
+    → count + length (changes columns place (drop place before) (drop place after)) ≡ length all
+    → take (3 * count) out ++ written (changes columns place (drop place before) (drop place after)) ≡ written all
+    → drop (3 * count) out ≡ drop (3 * count) out₀
+    → more ≡ count + length (changeAt columns place (getD before place 0) (getD after place 0))
+    → out′ ≡ sets out (3 * count) (written (changeAt columns place (getD before place 0) (getD after place 0)))
+    → (more ≤ place + 1) × (length out′ ≡ length out₀)
+    × (more + length (changes columns (place + 1) (drop (place + 1) before) (drop (place + 1) after)) ≡ length all)
+    × (take (3 * more) out′ ++ written (changes columns (place + 1) (drop (place + 1) before) (drop (place + 1) after)) ≡ written all)
+    × (drop (3 * more) out′ ≡ drop (3 * more) out₀)
+tell-turn columns place count more before after out out₀ out′ all in-before in-after few room same-long many so-far past is put =
     let change = changeAt columns place (getD before place 0) (getD after place 0) in
     let rest = changes columns (place + 1) (drop (place + 1) before) (drop (place + 1) after) in
     let split = changes-on columns place before after in-before in-after in
     let one = change-few columns place (getD before place 0) (getD after place 0) in
     let long = length-written change in
-    let end : 3 * told′ ≡ 3 * told + length (written change) = omega arith in
-    let so-far′ : take (3 * told) out ++ (written change ++ written rest) ≡ written all =
-    sym (ap (λ (es : List Event). take (3 * told) out ++ written es) split ∙ rw (written-append change rest)) ∙ so-far in
-    let behind = put-behind out out₀ (written change) (written rest) (written all) (3 * told) (omega arith) so-far′ past in (
+    let end : 3 * more ≡ 3 * count + length (written change) = omega arith in
+    let so-far′ : take (3 * count) out ++ (written change ++ written rest) ≡ written all =
+    sym (ap (λ (es : List Event). take (3 * count) out ++ written es) split ∙ rw (written-append change rest)) ∙ so-far in
+    let behind = put-behind out out₀ (written change) (written rest) (written all) (3 * count) (omega arith) so-far′ past in (
       omega arith,
-      ap length put ∙ length-sets out (3 * told) (written change) ∙ same-long,
+      ap length put ∙ length-sets out (3 * count) (written change) ∙ same-long,
       omega (arith, ap (λ (es : List Event). length es) split, length-append change rest),
       rw (put, end) (behind .0),
       rw (put, end) (behind .1),

@@ -7,9 +7,9 @@ use Rattle.event.specs.declared.Event.{Event}
 use Rattle.event.specs.declared.Event.the-variants.{Release, Press}
 use Rattle.event.specs.Bytes.{bytesOf}
 
--- the event of the switch at a place of rows of so many columns, which is now so
+-- the event of the switch at a place of rows of so many columns, which now is so
 unfoldable pub eventAt : ℕ → ℕ → ℕ → Event
-eventAt columns place now = cond (eqb now 0) (Release (place / columns) (place % columns)) (Press (place / columns) (place % columns))
+eventAt columns place is = cond (eqb is 0) (Release (place / columns) (place % columns)) (Press (place / columns) (place % columns))
 
 -- no event where a switch is as it was, else its event
 unfoldable pub changeAt : ℕ → ℕ → ℕ → ℕ → List Event

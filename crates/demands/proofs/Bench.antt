@@ -6,18 +6,19 @@ use Rattle.codes.specs.Codes.{legal, modifier, modifierBit}
 use Rattle.codes.specs.Report.{freePlace, filled, placed, keyed, pressedOf, withCodes, reportOf}
 use Rattle.image.specs.Words.{wordAt, cellOf, fieldOf, entryOf, entries}
 use Rattle.image.specs.Record.{actionOf, actionAt, codesIn, childrenIn, listEnd, cellAt}
-use Rattle.image.specs.Tree.{named, meaning, trees, tree, open?, someOpen, shutButLast, settled, weight}
+use Rattle.image.specs.Tree.{named, meaning, trees, tree, open?, someOpen, shutButLast, opensLast, weight}
 use Rattle.image.specs.Table.{treeIn}
-use Rattle.image.specs.Check.{rule, orElse, firstFault, within, countsGood, offsetsGood, headerGood, headFault, cellFault, form, formGood, recordFault, bodyFault, faultOf, answer, checkOf}
+use Rattle.refusal.specs.Verdict.{rule, orElse, firstFault}
+use Rattle.image.specs.Check.{within, countsGood, offsetsGood, headerGood, headFault, cellFault, form, formGood, recordFault, bodyFault, faultOf, answer, checkOf}
 use Rattle.debounce.specs.Picture.{isPicture, isScan}
 use Rattle.debounce.specs.Step.{grown, passed, step as bounceStep}
 use Rattle.debounce.specs.Events.{eventAt, changeAt, changes, written}
-use Rattle.debounce.specs.Calls.{sizesGood, bounceGood, stateGood as bounceState, rule as bounceRule, makingVerdict, eventsVerdict, made, eventsOf, told, buffered as bounceBuffered}
+use Rattle.debounce.specs.Calls.{sizesGood, bounceGood, stateGood as bounceState, makingVerdict, eventsVerdict, ifFine, eventsOf}
 use Rattle.layout.specs.Actions.{push, pushCodes, find, verdict, doAction, decided}
 use Rattle.layout.specs.Steps.{held, sum, current, pressed, release, act, into, released, overflow, entered, event, ticked, tick, codes}
-use Rattle.layout.specs.Packed.{noted, notedMarks}
-use Rattle.layout.specs.Replies.{replied}
-use Rattle.layout.specs.Calls.{falling, stateGood, rule as layoutRule, judgedBy, judgedOf, answerOf, layoutAfter, buffered}
+use Rattle.layout.specs.State.{falling, stateGood}
+use Rattle.layout.specs.Notes.{notedMarks}
+use Rattle.layout.specs.Calls.{replied, judgedOf, answerOf, layoutAfter, buffered}
 use Rattle.demands.specs.Runs.{call, run, ticks}
 use Rattle.demands.specs.Public.{step, reply, replies}
 use Rattle.demands.specs.Z.{zOf, lent}
@@ -25,5 +26,5 @@ use Rattle.demands.specs.Bench.{says, scans, outcome, Holds, AllHold, ca
 
 -- `call`, `run` and `ticks` are named for the edit `whole_queue_at_the_first_tick` alone: it computes, and the case fails
 pub bench : Bench
-unfolding every keep alike legal modifier modifierBit freePlace filled placed keyed pressedOf withCodes reportOf wordAt cellOf fieldOf entryOf entries actionOf actionAt codesIn childrenIn listEnd cellAt named meaning trees tree open? someOpen shutButLast settled weight treeIn rule orElse firstFault within countsGood offsetsGood headerGood headFault cellFault form formGood recordFault bodyFault faultOf answer checkOf isPicture isScan grown passed bounceStep eventAt changeAt changes written sizesGood bounceGood bounceState bounceRule makingVerdict eventsVerdict made eventsOf told bounceBuffered push pushCodes find verdict doAction decided held sum current pressed release act into released overflow entered event ticked tick codes notedMarks falling stateGood layoutRule judgedBy judgedOf answerOf layoutAfter buffered call run ticks step replied reply replies zOf lent says scans outcome Holds AllHold cases Bench
+unfolding every keep alike legal modifier modifierBit freePlace filled placed keyed pressedOf withCodes reportOf wordAt cellOf fieldOf entryOf entries actionOf actionAt codesIn childrenIn listEnd cellAt named meaning trees tree open? someOpen shutButLast opensLast weight treeIn rule orElse firstFault within countsGood offsetsGood headerGood headFault cellFault form formGood recordFault bodyFault faultOf answer checkOf isPicture isScan grown passed bounceStep eventAt changeAt changes written sizesGood bounceGood bounceState makingVerdict eventsVerdict ifFine eventsOf push pushCodes find verdict doAction decided held sum current pressed release act into released overflow entered event ticked tick codes notedMarks falling stateGood judgedOf answerOf layoutAfter buffered call run ticks step replied reply replies zOf lent says scans outcome Holds AllHold cases Bench
 bench = (refl, (refl, (refl, (refl, (refl, (refl, (refl, (refl, (refl, (refl, (refl, (refl, tt))))))))))))

@@ -17,30 +17,29 @@ use Rattle.event.specs.declared.Coord.{Coord}
 use Rattle.event.specs.declared.Event.{Event}
 use Rattle.event.specs.declared.Event.the-variants.{Release, Press}
 use Rattle.image.specs.Tree.{Action}
-use Rattle.image.specs.Legal.{Times}
+use Rattle.image.specs.Proper.{Times, holdable}
 use Rattle.image.specs.Table.{Table}
-use Rattle.layout.specs.Model.{Waiting, Idle, Waits, Model, Mark, Decided, same, still, withWaiting, withQueue}
-use Rattle.layout.specs.Packed.{actedOn, decisions}
+use Rattle.layout.specs.Model.{Queued, Waiting, Idle, Waits, Model, Mark, Decided, ageOf, same, still, withWaiting, withQueue}
+use Rattle.layout.specs.Notes.{actedOn}
 use Rattle.layout.specs.Actions.{find, decided}
 use Rattle.layout.specs.Steps.{held, current, pressed, coordIn, release, act, into, intoHold, intoTap, releases, released, overflow, appended, entered, event, olderOne, older, tickWait, ticked, tick}
-use Rattle.layout.specs.declared.run.State.{State}
-use Rattle.layout.specs.declared.run.Way.{Way}
-use Rattle.layout.specs.declared.run.Way.the-variants.{Tap, Hold}
-use Rattle.layout.specs.declared.queue.Stacked.{Stacked}
-use Rattle.layout.proofs.Acts.{acted-append}
-use Rattle.layout.proofs.Decisions.{default-legal}
+use Rattle.layout.specs.declared.active.State.{State}
+use Rattle.layout.specs.declared.notes.Way.{Way}
+use Rattle.layout.specs.declared.notes.Way.the-variants.{Tap, Hold}
+use Rattle.layout.proofs.Noted.{acted-append}
+use Rattle.layout.proofs.Running.{Down, Kept, kept, ran, default-proper}
 use Rattle.demands.specs.Runs.{Call, Tick, Enter, call, run, arrived}
 use Rattle.demands.specs.Words.{Leads, Nothing, Key, downBy, downAfter}
-use Rattle.demands.specs.OnLists.{Legal}
 use Rattle.demands.proofs.Cost.{cost, share, cost-less, share-whole}
-use Rattle.demands.proofs.Marks.{made, leads-append, down-append, Down, down-nil, down-head, down-cons, down-more}
-use Rattle.demands.proofs.Actions.{Ends, ends-hold, ends-tap, pending, waits, Good, Sure, good-idle, good-more, good-cost, ran}
+use Rattle.demands.proofs.Marks.{leads-append, down-append, down-nil, down-head, down-cons, down-more}
+use Rattle.demands.proofs.Proper.{Proper}
+use Rattle.demands.proofs.Waits.{pending, Good, Sure, good-idle, good-more, good-cost, comes-acted, comes-leads, comes-good}
 
-abbrev eventIn : Stacked → Event
+abbrev eventIn : Queued → Event
 eventIn q = q .event
 
 -- the queued events, in order of arrival
-abbrev pub queued : List Stacked → List Event
+abbrev pub queued : List Queued → List Event
 queued q = map eventIn q
 
 -- a layout of which every state's key, and the waiting one, is down by h, and the wait costs no more than one that begins
@@ -66,7 +65,7 @@ goes-after {l = l} {k} {j} {ms} {ns} p q =
       fit = fit-more (λ c t. rw (acted-append, down-append) t) (q .fit);
     }
 
-same-refl : (c : Coord) → same c c ≡ true
+pub same-refl : (c : Coord) → same c c ≡ true
 same-refl c = rw (eq-eqb (c .i) (c .i) refl, eq-eqb (c .j) (c .j) refl)
 
 cond-true : (b x : Bool) → x ≡ true → cond b true x ≡ true
@@ -79,7 +78,6 @@ pub record Acts (m : Times) (e : Event) (age : ℕ) (h : Coord → Bool) (l k : 
   pub acted : actedOn ms ≡ e ∷ []
   pub leads : Leads Nothing ms (pending (k .waiting))
   pub wait : Good m (share m age) (λ c. downBy e c (h c)) (k .waiting)
-  pub few : made ms + waits (k .waiting) ≤ 1
   pub down : Down (λ c. downBy e c (h c)) (k .states)
 
 -- what a release leaves is down without its key
@@ -107,37 +105,36 @@ pub record Over (h : Coord → Bool) (l k : Model) (ms : List Mark) : Type 0 whe
   pub acted : actedOn ms ≡ []
   pub leads : Leads (pending (l .waiting)) ms Nothing
   pub idle : k .waiting ≡ Idle
-  pub few : made ms ≤ waits (l .waiting)
   pub down : Down h (k .states)
 
-over-ends : {h : Coord → Bool} {l k : Model} {ms : List Mark} {c : Coord} (w : Way) → pending (l .waiting) ≡ Key c → 1 ≤ waits (l .waiting) → h c ≡ true → Down h (l .states) → Ends c (withWaiting Idle l) k ms
+over-kept : {h : Coord → Bool} {l k : Model} {ms : List Mark} {c : Coord} (w : Way) → pending (l .waiting) ≡ Key c → h c ≡ true → Down h (l .states) → Kept c (withWaiting Idle l) k ms
     → Over h l k (Decided c w ∷ ms)
-unfolding actedOn decisions Leads
-over-ends {h = h} w e o g d x = record { queue = x .queue; acted = x .acted; leads = rw e (refl, x .leads); idle = x .idle; few = rw (x .few) o; down = x .down h g d }
+unfolding actedOn Leads
+over-kept {h = h} w e g d x = record { queue = x .queue; acted = rw (x .marks); leads = rw (e, x .marks) (refl, refl); idle = x .waiting; down = x .down h g d }
 
 over-still : {h : Coord → Bool} {l : Model} → l .waiting ≡ Idle → Down h (l .states) → Over h l l []
-unfolding actedOn decisions Leads
-over-still e d = record { queue = refl; acted = refl; leads = rw e refl; idle = e; few = omega arith; down = d }
+unfolding actedOn Leads
+over-still e d = record { queue = refl; acted = refl; leads = rw e refl; idle = e; down = d }
 
 turns-over : (m : Times) {h : Coord → Bool} {l k : Model} {ms : List Mark} → Over h l k ms → Turns m h l k ms
 turns-over m {h} {l} {k} x = record { queue = x .queue; acted = x .acted; leads = rw (x .idle) (x .leads); wait = good-idle m _ h (k .waiting) (x .idle); down = x .down }
 
 module _ (t : Table) (m : Times) (x : ℕ) (h : Coord → Bool) (l : Model) where
   -- cut by a seventeenth event
-  pub cuts : (w : Waiting) → l .waiting ≡ w → Good m x h w → Down h (l .states) → Over h l ((intoHold t w l) .layout) ((intoHold t w l) .marks)
-  unfolding into decided Good
+  cuts : (w : Waiting) → l .waiting ≡ w → Good m x h w → Down h (l .states) → Over h l ((intoHold t w l) .layout) ((intoHold t w l) .marks)
+  unfolding into decided Good holdable
   cuts Idle e g d = over-still e d
-  cuts (Waits c k i a b) e g d = over-ends Hold (rw e) (rw e (omega arith)) (g .down) d (ends-hold a (t .layers) c (find c (l .queue)) l m (g .hold))
+  cuts (Waits c k i a b) e g d = over-kept Hold (rw e) (g .down) d (kept a (t .layers) c 0 (find c (l .queue)) (withWaiting Idle l) (g .hold))
 
   -- expired
   pub expires : (w : Waiting) → l .waiting ≡ w → Good m x h w → Down h (l .states) → Turns m h l ((intoHold t w l) .layout) ((intoHold t w l) .marks)
   expires w e g d = turns-over m (cuts w e g d)
 
   -- released
-  pub taps : (w : Waiting) → l .waiting ≡ w → Good m x h w → Down h (l .states) → Over h l ((intoTap t w l) .layout) ((intoTap t w l) .marks)
+  taps : (w : Waiting) → l .waiting ≡ w → Good m x h w → Down h (l .states) → Over h l ((intoTap t w l) .layout) ((intoTap t w l) .marks)
   unfolding into decided Good
   taps Idle e g d = over-still e d
-  taps (Waits c k i a b) e g d = over-ends Tap (rw e) (rw e (omega arith)) (g .down) d (ends-tap b (t .layers) c (find c (l .queue)) l (g .tap))
+  taps (Waits c k i a b) e g d = over-kept Tap (rw e) (g .down) d (kept b (t .layers) c 0 (find c (l .queue)) (withWaiting Idle l) (g .tap))
 
 -- from l, of which j differs in the queue and the ticks left alone
 goes-turns : {m : Times} {es : List Event} {h : Coord → Bool} {l j k : Model} {ms : List Mark} → pending (j .waiting) ≡ pending (l .waiting)
@@ -165,21 +162,20 @@ goes-still : {m : Times} {es : List Event} {h : Coord → Bool} {l k : Model} �
 unfolding actedOn Leads downAfter
 goes-still w q f = record { order = q; leads = sym w; fit = f }
 
-module _ (t : Table) (m : Times) (ok : Legal t m) where
+module _ (t : Table) (m : Times) (ok : Proper t m) where
   pub acts : (e : Event) (age : ℕ) (h : Coord → Bool) (l : Model) → l .waiting ≡ Idle → Down h (l .states) → Acts m e age h l ((act t e age l) .layout) ((act t e age l) .marks)
-  unfolding act actedOn decisions Leads pressed
+  unfolding act actedOn Leads pressed
   acts (Press i j) age h l w d =
       let c : Coord = record { i = i; j = j } in
       let now = current (l .base) (held (l .states)) in
-      let r = ran (pressed t c l) m (t .layers) c age (find c (l .queue)) l (default-legal (t .cell now i j) (t .cell (l .base) i j) m (ok .cells now i j) (ok .cells (l .base) i j)) w in
+      let r = ran (pressed t c l) m (t .layers) c age (find c (l .queue)) l (default-proper (t .cell now i j) (t .cell (l .base) i j) m (ok .cells now i j) (ok .cells (l .base) i j)) w in
       let g : Coord → Bool = λ x. cond (same c x) true (h x) in
       let gc : g c ≡ true = rw (same-refl c) in
       record {
         queue = r .queue;
-        acted = ap (λ (es : List Event). Press i j ∷ es) (r .acted);
-        leads = r .leads;
-        wait = r .wait g gc;
-        few = r .few;
+        acted = ap (λ (es : List Event). Press i j ∷ es) (comes-acted (r .comes));
+        leads = comes-leads (r .comes);
+        wait = comes-good g gc (r .comes);
         down = r .down g gc (down-more h g (λ x y. cond-true (same c x) (h x) y) (l .states) d);
       }
   acts (Release i j) age h l w d =
@@ -188,7 +184,6 @@ module _ (t : Table) (m : Times) (ok : Legal t m) where
         acted = refl;
         leads = rw w refl;
         wait = good-idle m (share m age) _ (l .waiting) w;
-        few = rw w (omega arith);
         down = down-release (record { i = i; j = j }) h (l .states) d;
       }
 
@@ -197,38 +192,38 @@ module _ (t : Table) (m : Times) (ok : Legal t m) where
   goes-wait h l k zero w q f = goes-turns w q (good-cost m (share m 0) h (k .waiting) (f .wait)) (expires t m (share m 0) h k (k .waiting) refl (f .wait) (f .down))
   goes-wait h l k (suc j) w q f = goes-still w q f
 
-  pub fit-wait : (h : Coord → Bool) (l : Model) (c : Coord) (k j i : ℕ) (a b : Action) (q : List Stacked) → j ≤ k → l .waiting ≡ Waits c k i a b → Fit m h l → Fit m h (withWaiting (Waits c j i a b) (withQueue q l))
+  pub fit-wait : (h : Coord → Bool) (l : Model) (c : Coord) (k j i : ℕ) (a b : Action) (q : List Queued) → j ≤ k → l .waiting ≡ Waits c k i a b → Fit m h l → Fit m h (withWaiting (Waits c j i a b) (withQueue q l))
   unfolding Good
   fit-wait h l c k j i a b q le e f =
       let g : Sure m (share m 0) h c k i a b = rw e at (f .wait) in
       record { wait = record { cheap = omega (arith, g .cheap, cost-less m c i a b j k le); down = g .down; hold = g .hold; tap = g .tap }; down = f .down }
 
-  goes-ticked : (h : Coord → Bool) (l : Model) → Fit m h l → (w : Waiting) → l .waiting ≡ w → (q : List Stacked) → queued q ≡ queued (l .queue) ++ []
+  goes-ticked : (h : Coord → Bool) (l : Model) → Fit m h l → (w : Waiting) → l .waiting ≡ w → (q : List Queued) → queued q ≡ queued (l .queue) ++ []
       → Goes m [] h l ((ticked t w q l) .layout) ((ticked t w q l) .marks)
   unfolding ticked
   goes-ticked h l f (Waits c k i a b) e q eq = goes-wait h l _ (k - 1) (rw e) eq (fit-wait h l c k (k - 1) i a b q (omega arith) e f)
   goes-ticked h l f Idle e [] eq = goes-still refl eq (record { wait = f .wait; down = f .down })
-  goes-ticked h l f Idle e (q ∷ qs) eq = goes-acts e eq (acts (q .event) (q .since) h (withQueue qs l) e (f .down))
+  goes-ticked h l f Idle e (q ∷ qs) eq = goes-acts e eq (acts (q .event) (ageOf q) h (withQueue qs l) e (f .down))
 
   pub goes-tick : (h : Coord → Bool) (l : Model) → Fit m h l → Goes m [] h l ((tick t l) .layout) ((tick t l) .marks)
   unfolding tick
   goes-tick h l f = goes-ticked h l f (l .waiting) refl (older (l .queue)) (map-map eventIn olderOne (l .queue) ∙ sym (append-nil _))
 
-  goes-overflow : (h : Coord → Bool) (l : Model) → Fit m h l → (q : Stacked) (es : List Event) (k : List Stacked) → q .event ∷ queued k ≡ queued (l .queue) ++ es
+  goes-overflow : (h : Coord → Bool) (l : Model) → Fit m h l → (q : Queued) (es : List Event) (k : List Queued) → q .event ∷ queued k ≡ queued (l .queue) ++ es
       → Goes m es h l ((overflow t q (withQueue k l)) .layout) ((overflow t q (withQueue k l)) .marks)
   unfolding overflow downAfter
   goes-overflow h l f q es k eq =
       let r = intoHold t (l .waiting) (withQueue k l) in
       let x = cuts t m (share m 0) h (withQueue k l) (l .waiting) refl (f .wait) (f .down) in
-      let s = act t (q .event) (q .since) (r .layout) in
-      let y = acts (q .event) (q .since) h (r .layout) (x .idle) (x .down) in
+      let s = act t (q .event) (ageOf q) (r .layout) in
+      let y = acts (q .event) (ageOf q) h (r .layout) (x .idle) (x .down) in
       record {
         order = rw (acted-append (r .marks) (s .marks), x .acted, y .acted, y .queue, x .queue) eq;
         leads = leads-append _ (r .marks) Nothing (s .marks) _ (x .leads) (y .leads);
-        fit = rw (acted-append (r .marks) (s .marks), x .acted, y .acted) (record { wait = good-more m (share m (q .since)) (share m 0) _ _ (share-whole m (q .since)) (λ c z. z) (s .layout .waiting) (y .wait); down = y .down });
+        fit = rw (acted-append (r .marks) (s .marks), x .acted, y .acted) (record { wait = good-more m (share m (ageOf q)) (share m 0) _ _ (share-whole m (ageOf q)) (λ c z. z) (s .layout .waiting) (y .wait); down = y .down });
       }
 
-  pub goes-entered : (h : Coord → Bool) (l : Model) → Fit m h l → (e : Event) (q : List Stacked) → l .queue ≡ q → Goes m (e ∷ []) h l ((entered t e q l) .layout) ((entered t e q l) .marks)
+  goes-entered : (h : Coord → Bool) (l : Model) → Fit m h l → (e : Event) (q : List Queued) → l .queue ≡ q → Goes m (e ∷ []) h l ((entered t e q l) .layout) ((entered t e q l) .marks)
   unfolding entered
   goes-entered h l f e [] eq = goes-still refl (rw eq) (record { wait = f .wait; down = f .down })
   goes-entered h l f e (q ∷ qs) eq = go (ltb (length (q ∷ qs)) 16)
@@ -246,14 +241,9 @@ module _ (t : Table) (m : Times) (ok : Legal t m) where
       go true = goes-turns refl (sym (append-nil _)) (good-cost m (share m 0) h (l .waiting) (f .wait)) (turns-over m (taps t m (share m 0) h l (l .waiting) refl (f .wait) (f .down)))
       go false = goes-still refl (sym (append-nil _)) f
 
-  pub goes-event : (h : Coord → Bool) (l : Model) → Fit m h l → (e : Event) → Goes m (e ∷ []) h l ((event t e l) .layout) ((event t e l) .marks)
+  goes-event : (h : Coord → Bool) (l : Model) → Fit m h l → (e : Event) → Goes m (e ∷ []) h l ((event t e l) .layout) ((event t e l) .marks)
   unfolding event
   goes-event h l f e = let x = goes-entered h l f e (l .queue) refl in goes-after x (goes-released _ ((entered t e (l .queue) l) .layout) (x .fit) e)
-
-  pub goes-call : (k : Call) (h : Coord → Bool) (l : Model) → Fit m h l → Goes m (arrived (k ∷ [])) h l ((call t k l) .layout) ((call t k l) .marks)
-  unfolding call arrived
-  goes-call Tick h l f = goes-tick h l f
-  goes-call (Enter e) h l f = goes-event h l f e
 
   pub goes-run : (ks : List Call) (h : Coord → Bool) (l : Model) → Fit m h l → Goes m (arrived ks) h l ((run t ks l) .layout) ((run t ks l) .marks)
   unfolding run call arrived

@@ -5,7 +5,7 @@ use mathlib.Core.Path.{_≡_, refl}
 use native.Mathlib.Omega.{arith}
 use Rattle.event.specs.declared.Coord.{Coord}
 use Rattle.image.specs.Tree.{Action}
-use Rattle.image.specs.Legal.{Times}
+use Rattle.image.specs.Proper.{Times}
 use Rattle.layout.specs.Model.{Waiting, Idle, Waits}
 use Rattle.demands.specs.Words.{bound}
 

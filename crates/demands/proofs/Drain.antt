@@ -7,29 +7,28 @@ use mathlib.Core.List.{List, [], _∷_}
 use native.Mathlib.Omega.{arith}
 use lib.ListN.{length, length-map}
 use Rattle.event.specs.declared.Coord.{Coord}
-use Rattle.image.specs.Legal.{Times}
+use Rattle.image.specs.Proper.{Times}
 use Rattle.image.specs.Table.{Table}
-use Rattle.layout.specs.Model.{Waiting, Idle, Waits, Model, withWaiting, withQueue}
+use Rattle.layout.specs.Model.{Queued, Waiting, Idle, Waits, Model, ageOf, withWaiting, withQueue}
 use Rattle.layout.specs.Steps.{act, older, tickWait, ticked, tick}
-use Rattle.layout.specs.declared.queue.Stacked.{Stacked}
 use Rattle.demands.specs.Runs.{call, run, ticks}
 use Rattle.demands.specs.Words.{bound}
-use Rattle.demands.specs.OnLists.{Legal, Quiet}
 use Rattle.demands.proofs.Cost.{cost, share, each, cost-idle, cost-pos, cost-less, cost-tick, Due, due-acted, due-start}
-use Rattle.demands.proofs.Actions.{Good, good-cost}
+use Rattle.demands.proofs.Proper.{Proper, Quiet}
+use Rattle.demands.proofs.Waits.{Good, good-cost}
 use Rattle.demands.proofs.Calls.{Fit, fit-wait, acts, expires, goes-tick}
 
 -- n ticks into the draining, every queued age is at least n, or stands at 65,535
-unfoldable Old : ℕ → List Stacked → Type 0
+unfoldable Old : ℕ → List Queued → Type 0
 Old n [] = Unit {0}
-Old n (q ∷ qs) = (min n 65535 ≤ q .since) × Old n qs
+Old n (q ∷ qs) = (min n 65535 ≤ ageOf q) × Old n qs
 
-old-zero : (qs : List Stacked) → Old 0 qs
+old-zero : (qs : List Queued) → Old 0 qs
 unfolding Old
 old-zero [] = tt
 old-zero (q ∷ qs) = (omega arith, old-zero qs)
 
-old-older : (n : ℕ) (qs : List Stacked) → Old n qs → Old (suc n) (older qs)
+old-older : (n : ℕ) (qs : List Queued) → Old n qs → Old (suc n) (older qs)
 unfolding Old
 old-older n [] o = tt
 old-older n (q ∷ qs) o = (omega (arith, o .0), old-older n qs (o .1))
@@ -38,9 +37,9 @@ pub record Draining (m : Times) (n r : ℕ) (l : Model) : Type 0 where
   old : Old n (l .queue)
   due : Due m n r (cost m (l .waiting)) (length (l .queue))
 
-module _ (t : Table) (m : Times) (ok : Legal t m) where
+module _ (t : Table) (m : Times) (ok : Proper t m) where
   -- what waits comes to cost at most y
-  drains-to : (n r x y : ℕ) (q : List Stacked) (k : Model) → k .queue ≡ q → cost m (k .waiting) ≤ y → suc y ≤ x → Old (suc n) q → Due m n (suc r) x (length q) → Draining m (suc n) r k
+  drains-to : (n r x y : ℕ) (q : List Queued) (k : Model) → k .queue ≡ q → cost m (k .waiting) ≤ y → suc y ≤ x → Old (suc n) q → Due m n (suc r) x (length q) → Draining m (suc n) r k
   drains-to n r x y q k eq le lt o d = record { old = rw eq o; due = rw eq (record { soon = omega arith; late = omega arith }) }
 
   drains-wait : (n r : ℕ) (h : Coord → Bool) (j x : ℕ) (k : Model) → Fit m h k → Old (suc n) (k .queue) → Due m n (suc r) x (length (k .queue))
@@ -51,7 +50,7 @@ module _ (t : Table) (m : Times) (ok : Legal t m) where
       drains-to n r x (cost m (k .waiting) - 1) (k .queue) _ (z .queue) (good-cost m _ h _ (z .wait)) (omega arith) o d
   drains-wait n r h (suc j) x k f o d p q = drains-to n r x (cost m (k .waiting)) (k .queue) k refl (omega arith) (q j refl) o d
 
-  drains-ticked : (n r : ℕ) (h : Coord → Bool) (l : Model) → Fit m h l → (w : Waiting) → l .waiting ≡ w → (q : List Stacked) → Old (suc n) q → Due m n (suc r) (cost m w) (length q)
+  drains-ticked : (n r : ℕ) (h : Coord → Bool) (l : Model) → Fit m h l → (w : Waiting) → l .waiting ≡ w → (q : List Queued) → Old (suc n) q → Due m n (suc r) (cost m w) (length q)
       → Draining m (suc n) r ((ticked t w q l) .layout)
   unfolding ticked Old
   drains-ticked n r h l f (Waits c k i a b) e q o d =
@@ -59,18 +58,18 @@ module _ (t : Table) (m : Times) (ok : Legal t m) where
       (λ z. (cost-pos m c i a b (k - 1), cost-less m c i a b (k - 1) k (omega arith))) (λ j z. cost-tick m c i a b j k z)
   drains-ticked n r h l f Idle e [] o d = let z = cost-idle m (l .waiting) e in let y = cost-idle m Idle refl in record { old = tt; due = record { soon = omega arith; late = omega arith } }
   drains-ticked n r h l f Idle e (q ∷ qs) o d =
-      let s = act t (q .event) (q .since) (withQueue qs l) in
-      let y = acts t m ok (q .event) (q .since) h (withQueue qs l) e (f .down) in
+      let s = act t (q .event) (ageOf q) (withQueue qs l) in
+      let y = acts t m ok (q .event) (ageOf q) h (withQueue qs l) e (f .down) in
       record {
         old = rw (y .queue) (o .1);
-        due = rw (y .queue) (due-acted m n r (q .since) (cost m (s .layout .waiting)) (length qs) (ok .word) (good-cost m (share m (q .since)) _ (s .layout .waiting) (y .wait)) (o .0) (rw (cost-idle m Idle refl) at d));
+        due = rw (y .queue) (due-acted m n r (ageOf q) (cost m (s .layout .waiting)) (length qs) (ok .word) (good-cost m (share m (ageOf q)) _ (s .layout .waiting) (y .wait)) (o .0) (rw (cost-idle m Idle refl) at d));
       }
 
   drains-tick : (n r : ℕ) (h : Coord → Bool) (l : Model) → Fit m h l → Draining m n (suc r) l → Draining m (suc n) r ((tick t l) .layout)
   unfolding tick
   drains-tick n r h l f x = drains-ticked n r h l f (l .waiting) refl (older (l .queue)) (old-older n (l .queue) (x .old)) (rw length-map (x .due))
 
-  quiet-due : (n : ℕ) (w : Waiting) (q : List Stacked) → Due m n 0 (cost m w) (length q) → (q ≡ []) × (w ≡ Idle)
+  quiet-due : (n : ℕ) (w : Waiting) (q : List Queued) → Due m n 0 (cost m w) (length q) → (q ≡ []) × (w ≡ Idle)
   unfolding each
   quiet-due n Idle [] d = (refl, refl)
   quiet-due n Idle (x ∷ q) d = absurd (omega arith)

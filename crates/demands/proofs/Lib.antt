@@ -1,6 +1,7 @@
 pub mod Cost
 pub mod Marks
-pub mod Actions
+pub mod Proper
+pub mod Waits
 pub mod Calls
 pub mod Drain
 pub mod Limits
@@ -8,6 +9,6 @@ pub mod Answers
 pub mod OnLists
 pub mod Replies
 pub mod Demand3
-pub mod Reached
+pub mod Witness
 pub mod Bench
 pub mod Ties

@@ -1,28 +1,19 @@
 -- Laws of what is read off a run: the marks, the events, the keys that are down. Demand 3.
 -- Assumes nothing.
-use Prim.Native.Nat.{ℕ, zero, suc, _+_}
+use Prim.Native.Nat.{ℕ, zero, suc}
 use mathlib.Core.Path.{_≡_, refl, ap}
 use mathlib.Core.Bool.{Bool, true, false}
 use mathlib.Core.List.{List, [], _∷_, _++_}
-use lib.ListN.{length, length-append}
 use Rattle.lists.specs.Lists.{every}
-use Rattle.lists.proofs.Laws.{every-head, every-append}
+use Rattle.lists.proofs.Laws.{every-head}
 use Rattle.event.specs.declared.Coord.{Coord}
 use Rattle.event.specs.declared.Event.{Event}
 use Rattle.layout.specs.Model.{Mark, Acted, Begun, Decided}
-use Rattle.layout.specs.Packed.{decisions}
 use Rattle.layout.specs.Steps.{coordIn}
-use Rattle.layout.specs.declared.run.State.{State}
-use Rattle.layout.proofs.Decisions.{decisions-append}
+use Rattle.layout.specs.declared.active.State.{State}
+use Rattle.layout.proofs.Running.{Down}
 use Rattle.demands.specs.Runs.{Call, Tick, Enter, ticks, arrived}
 use Rattle.demands.specs.Words.{Leads, Pending, Nothing, Key, downBy, downAfter}
-
--- how many decisions there are
-abbrev pub made : List Mark → ℕ
-made ms = length (decisions ms)
-
-pub made-append : (ms ns : List Mark) → made (ms ++ ns) ≡ made ms + made ns
-made-append ms ns = rw decisions-append (length-append (decisions ms) (decisions ns))
 
 pub leads-append : (p : Pending) (ms : List Mark) (q : Pending) (ns : List Mark) (r : Pending) → Leads p ms q → Leads q ns r → Leads p (ms ++ ns) r
 unfolding Leads
@@ -51,17 +42,9 @@ unfolding arrived ticks
 arrived-ticks zero = refl
 arrived-ticks (suc n) = arrived-ticks n
 
--- every state's key is down
-unfoldable pub Down : (Coord → Bool) → List State → Type 0
-Down h s = every (λ x. h (coordIn x)) s ≡ true
-
 pub down-nil : (h : Coord → Bool) → Down h []
 unfolding Down every
 down-nil h = refl
-
-pub down-push : (h : Coord → Bool) (s : List State) (x : State) → Down h s → h (coordIn x) ≡ true → Down h (s ++ (x ∷ []))
-unfolding Down every
-down-push h s x d e = every-append (λ x. h (coordIn x)) s (x ∷ []) d (rw e)
 
 pub down-head : (h : Coord → Bool) (x : State) (s : List State) → Down h (x ∷ s) → (h (coordIn x) ≡ true) × Down h s
 unfolding Down

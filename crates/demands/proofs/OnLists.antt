@@ -1,30 +1,38 @@
--- Demand 3 of the layout as lists, proved of every legal table and of every accepted image.
+-- Demand 3 of the layout as lists: of every legal table, from every layout in which nothing is held, waits or is queued.
 -- Assumes nothing.
-use Prim.Native.Nat.{ℕ, _≤_, _<_}
-use mathlib.Core.Path.{_≡_, refl, sym, _∙_}
+use Prim.Native.Nat.{ℕ, _≤_}
+use mathlib.Core.Path.{_≡_, refl, sym, ap, subst, _∙_}
 use mathlib.Core.Bool.{Bool, false}
 use mathlib.Core.List.{List, [], _∷_, _++_, append-nil}
-use lib.Ieee.Bits.{is-true}
-use lib.ListN.{getD}
+use lib.ListN.{length}
 use Rattle.event.specs.declared.Coord.{Coord}
-use Rattle.image.specs.Legal.{Times, legal}
-use Rattle.image.specs.Sound.{Sound}
-use Rattle.image.specs.Table.{Table, tableOf, timesOf}
-use Rattle.image.proofs.Accepted.{accepted, legal-table, times-word}
-use Rattle.layout.specs.Model.{Model, fresh}
-use Rattle.layout.specs.Packed.{actedOn}
+use Rattle.image.specs.Proper.{Times}
+use Rattle.image.specs.Table.{Table}
+use Rattle.layout.specs.Model.{Queued, Model, Waiting, Idle, Done}
+use Rattle.layout.specs.Notes.{actedOn}
 use Rattle.demands.specs.Runs.{Call, call, run, ticks, arrived}
-use Rattle.demands.specs.Words.{bound, AllReleased}
-use Rattle.demands.specs.OnLists.{drain, queuedAfter, Quiet, OnLists, Legal, OfTables, OfImages}
-use Rattle.demands.specs.Limits.{Limits}
+use Rattle.demands.specs.Words.{bound, Leads, Nothing, AllReleased}
+use Rattle.demands.proofs.Proper.{Proper, Quiet}
 use Rattle.demands.proofs.Marks.{down-nil, arrived-append, arrived-ticks, down-none}
-use Rattle.demands.proofs.Actions.{Good}
-use Rattle.demands.proofs.Calls.{Fit, Goes, goes-run}
+use Rattle.demands.proofs.Waits.{pending, good-idle}
+use Rattle.demands.proofs.Calls.{queued, Fit, Goes, goes-run}
 use Rattle.demands.proofs.Drain.{drains, draining-start}
-use Rattle.demands.proofs.Limits.{limits}
-use Rattle.demands.proofs.Answers.{names-events, names-decisions}
 
-run-append : (t : Table) (a b : List Call) (l : Model) → (run t (a ++ b) l) .layout ≡ (run t b ((run t a l) .layout)) .layout
+-- the calls on a layout over the table, then n ticks; and how many events are queued after the calls
+abbrev pub drain : Table → Model → List Call → ℕ → Done
+drain table start calls n = run table (calls ++ ticks n) start
+
+abbrev pub queuedAfter : Table → Model → List Call → ℕ
+queuedAfter table start calls = length (run table calls start .layout .queue)
+
+-- the clauses of demand 3 (specs/Demand3.antt), after n ticks, the bound or more
+pub record OnLists (table : Table) (times : Times) (start : Model) (calls : List Call) (n : ℕ) : Type 0 where
+  pub drained : Quiet (drain table start calls n .layout)
+  pub acted : actedOn (drain table start calls n .marks) ≡ arrived calls
+  pub decided : Leads Nothing (drain table start calls n .marks) Nothing
+  pub stateless : AllReleased (arrived calls) → drain table start calls n .layout .states ≡ []
+
+pub run-append : (t : Table) (a b : List Call) (l : Model) → (run t (a ++ b) l) .layout ≡ (run t b ((run t a l) .layout)) .layout
 unfolding run
 run-append t [] b l = refl
 run-append t (k ∷ a) b l = run-append t a b ((call t k l) .layout)
@@ -32,58 +40,30 @@ run-append t (k ∷ a) b l = run-append t a b ((call t k l) .layout)
 up : Coord → Bool
 up c = false
 
-fit-fresh : (m : Times) → Fit m up fresh
-unfolding Good
-fit-fresh m = record { wait = tt; down = down-nil up }
+module _ (t : Table) (m : Times) (ok : Proper t m) (start : Model) (stateless : start .states ≡ []) (idle : start .waiting ≡ Idle) (empty : start .queue ≡ []) (calls : List Call) where
+  fits : Fit m up start
+  fits = record { wait = good-idle m _ up (start .waiting) idle; down = rw stateless (down-nil up) }
 
-module _ (t : Table) (m : Times) (ok : Legal t m) (calls : List Call) where
-  goes : (ks : List Call) → Goes m (arrived ks) up fresh ((run t ks fresh) .layout) ((run t ks fresh) .marks)
-  goes ks = goes-run t m ok ks up fresh (fit-fresh m)
+  goes : (ks : List Call) → Goes m (arrived ks) up start ((run t ks start) .layout) ((run t ks start) .marks)
+  goes ks = goes-run t m ok ks up start fits
 
   came : (n : ℕ) → arrived (calls ++ ticks n) ≡ arrived calls
   came n = arrived-append calls (ticks n) ∙ rw (arrived-ticks n) (append-nil _)
 
-  rests : (n : ℕ) → bound (queuedAfter t calls) m ≤ n → Quiet (drain t calls n .layout)
+  rests : (n : ℕ) → bound (queuedAfter t start calls) m ≤ n → Quiet (drain t start calls n .layout)
   rests n b =
       let first = goes calls .fit in
-      rw run-append (drains t m ok n 0 _ ((run t calls fresh) .layout) first (draining-start m n _ ((run t calls fresh) .layout) (first .wait) b))
+      rw run-append (drains t m ok n 0 _ ((run t calls start) .layout) first (draining-start m n _ ((run t calls start) .layout) (first .wait) b))
 
-  ordered : (n : ℕ) → bound (queuedAfter t calls) m ≤ n → actedOn (drain t calls n .marks) ≡ arrived calls
-  ordered n b = sym (append-nil _) ∙ (rw (rests n b .empty) at (goes (calls ++ ticks n) .order)) ∙ came n
+  ordered : (n : ℕ) → bound (queuedAfter t start calls) m ≤ n → actedOn (drain t start calls n .marks) ≡ arrived calls
+  ordered n b = sym (append-nil _) ∙ (rw (rests n b .empty) at (goes (calls ++ ticks n) .order)) ∙ ap (λ (q : List Queued). queued q ++ arrived (calls ++ ticks n)) empty ∙ came n
 
-  none : AllReleased (arrived calls) → (n : ℕ) → bound (queuedAfter t calls) m ≤ n → drain t calls n .layout .states ≡ []
+  pub on-lists : (n : ℕ) → bound (queuedAfter t start calls) m ≤ n → OnLists t m start calls n
   unfolding AllReleased up
-  none f n b = down-none _ (λ c. rw (ordered n b) (f c)) _ (goes (calls ++ ticks n) .fit .down)
-
-  on-lists : OnLists t m calls
-  on-lists =
+  on-lists n b =
       record {
-        drained = rests;
-        acted = ordered;
-        named = λ n b. names-events t m ok (calls ++ ticks n) up fresh (fit-fresh m) ∙ ordered n b;
-        decided = λ n b. rw (rests n b .idle) at (goes (calls ++ ticks n) .leads);
-        told = λ n. names-decisions t m ok (calls ++ ticks n) up fresh (fit-fresh m);
-        stateless = none;
+        drained = rests n b;
+        acted = ordered n b;
+        decided = subst (λ (w : Waiting). Leads (pending w) (drain t start calls n .marks) Nothing) idle (rw (rests n b .idle) at (goes (calls ++ ticks n) .leads));
+        stateless = λ f. down-none _ (λ c. rw (ordered n b) (f c)) _ (goes (calls ++ ticks n) .fit .down);
       }
-
-pub of-tables : OfTables
-unfolding OfTables
-of-tables t m ok calls = on-lists t m ok calls
-
-legal-image : (img : List ℕ) → ((i : ℕ) → getD img i 0 < 256) → Sound img → Legal (tableOf img) (timesOf img)
-legal-image img bytes s =
-    record {
-      word = times-word img s bytes;
-      cells = λ l r c. is-true (legal (tableOf img .cell l r c) (timesOf img)) (legal-table img l r c s);
-    }
-
-pub of-images : OfImages
-unfolding OfImages OfTables
-of-images img shape bytes e calls = of-tables (tableOf img) (timesOf img) (legal-image img bytes (accepted img shape e .1)) calls
-
--- after any calls on a fresh layout, the limits of the next
-pub limits-next : (img : List ℕ) → ((i : ℕ) → getD img i 0 < 256) → Sound img → (calls : List Call) (k : Call)
-    → Limits k (call (tableOf img) k (run (tableOf img) calls fresh .layout) .marks)
-limits-next img bytes s calls k =
-    let ok = legal-image img bytes s in
-    limits (tableOf img) (timesOf img) ok _ (run (tableOf img) calls fresh .layout) (goes-run (tableOf img) (timesOf img) ok calls up fresh (fit-fresh (timesOf img)) .fit) k

@@ -7,27 +7,27 @@ use borrow.Author.Tests.{le-leb}
 use lib.ListN.{length, drop, replicate}
 use lib.Seq.{take-at}
 use Rattle.lists.specs.Lists.{every, laid}
+use Rattle.refusal.specs.Verdict.{rule, orElse}
+use Rattle.refusal.specs.declared.Verdict.the-variants.{Fine}
 use Rattle.image.specs.Check.{checkOf}
 use Rattle.image.specs.Sound.{Sound}
 use Rattle.image.specs.Table.{tableOf}
 use Rattle.image.specs.declared.words.Shape.{Shape}
 use Rattle.image.specs.declared.rules.Checked.the-variants.{Accepted}
 use Rattle.image.proofs.Accepted.{accepted}
-use Rattle.layout.specs.Model.{Model, Done, fresh}
+use Rattle.layout.specs.Model.{Model, Done}
 use Rattle.layout.specs.Steps.{event, tick, codes}
-use Rattle.layout.specs.Packed.{noNotes, noted, notedMarks}
-use Rattle.layout.specs.Replies.{Reply, replied}
-use Rattle.layout.specs.Calls.{pack, rule, judgedBy, judgedOf, answerOf, layoutAfter, buffered}
-use Rattle.layout.specs.declared.run.Notes.{Notes}
-use Rattle.layout.specs.declared.layout.Judged.the-variants as judged
-use Rattle.layout.proofs.Lawful.{Lawful, event-lawful, tick-lawful, fresh-lawful}
-use Rattle.layout.proofs.Reach.{lawful-good, unpack-pack}
+use Rattle.layout.specs.Packed.{pack}
+use Rattle.layout.specs.Notes.{noNotes, noted}
+use Rattle.layout.specs.Calls.{Reply, replied, judgedOf, answerOf, layoutAfter, buffered}
+use Rattle.layout.specs.Reach.{Starts}
+use Rattle.layout.proofs.Lawful.{Lawful, event-lawful, tick-lawful}
+use Rattle.layout.proofs.Reach.{lawful-good, unpack-pack, starts-lawful}
 use Rattle.demands.specs.Runs.{Call, Tick, Enter, call, run, ticks}
-use Rattle.demands.specs.Answers.{answers}
-use Rattle.demands.specs.Public.{Lent, callsOf, ticksOn, lentAll, Roomy, step, reply, replies, marksIf, marksOf, lastLayout, codesIn, lastCodes, notesOf, NoneRefused}
+use Rattle.demands.specs.Public.{Lent, callsOf, ticksOn, lentAll, Roomy, step, reply, replies, marksIf, marksOf, lastLayout, codesIn, lastCodes, NoneRefused}
 
 -- what a call that did so hands back
-abbrev pub given : Done → List ℕ → Reply
+abbrev given : Done → List ℕ → Reply
 given done buffer =
     record {
       told = record { number = 0; place = 0; codes = length (codes (done .layout .states)); notes = noted noNotes done };
@@ -42,16 +42,16 @@ module _ (img : List ℕ) (shape : Shape) (e : checkOf img ≡ Accepted shape) w
   sound : Sound img
   sound = accepted img shape e .1
 
-  fine : (l : Model) (room : ℕ) → Lawful img l → 64 ≤ room → judgedOf img (pack l) room ≡ judged.Fine (shape .layers)
-  unfolding judgedOf judgedBy rule
+  fine : (l : Model) (room : ℕ) → Lawful img l → 64 ≤ room → judgedOf img (pack l) room ≡ Fine
+  unfolding judgedOf orElse rule
   fine l room w h = rw (e, lawful-good img l w, le-leb 64 room h)
 
-  pub stays-lawful : (k : Call) (l : Model) → Lawful img l → Lawful img (call (tableOf img) k l .layout)
+  stays-lawful : (k : Call) (l : Model) → Lawful img l → Lawful img (call (tableOf img) k l .layout)
   unfolding call
   stays-lawful Tick l w = tick-lawful img sound l w
   stays-lawful (Enter x) l w = event-lawful img sound x l w
 
-  pub step-is : (k : Call) (l : Model) → Lawful img l → step img k (pack l) ≡ call (tableOf img) k l
+  step-is : (k : Call) (l : Model) → Lawful img l → step img k (pack l) ≡ call (tableOf img) k l
   unfolding step call
   step-is Tick l w = ap (tick (tableOf img)) (unpack-pack img l w)
   step-is (Enter x) l w = ap (event (tableOf img) x) (unpack-pack img l w)
@@ -60,7 +60,7 @@ module _ (img : List ℕ) (shape : Shape) (e : checkOf img ≡ Accepted shape) w
   unfolding replied answerOf layoutAfter buffered
   replied-is f l buffer w h = rw (fine l (length buffer) w h, ap f (unpack-pack img l w))
 
-  pub reply-is : (k : Call) (l : Model) (buffer : List ℕ) → Lawful img l → 64 ≤ length buffer → reply img k (pack l) buffer ≡ given (call (tableOf img) k l) buffer
+  reply-is : (k : Call) (l : Model) (buffer : List ℕ) → Lawful img l → 64 ≤ length buffer → reply img k (pack l) buffer ≡ given (call (tableOf img) k l) buffer
   unfolding reply call
   reply-is Tick l buffer w h = replied-is (tick (tableOf img)) l buffer w h
   reply-is (Enter x) l buffer w h = replied-is (event (tableOf img) x) l buffer w h
@@ -74,13 +74,12 @@ module _ (img : List ℕ) (shape : Shape) (e : checkOf img ≡ Accepted shape) w
   pub record Tied (ks : List Lent) (l : Model) : Type 0 where
     pub layout : lastLayout (pack l) (replies img ks (pack l)) ≡ pack (run (tableOf img) (callsOf ks) l .layout)
     pub marks : marksOf img ks (pack l) ≡ run (tableOf img) (callsOf ks) l .marks
-    pub notes : notesOf (replies img ks (pack l)) ≡ answers (tableOf img) (callsOf ks) l
     pub heard : NoneRefused (replies img ks (pack l))
     pub told : lastCodes (codes (l .states)) (replies img ks (pack l)) ≡ codes (run (tableOf img) (callsOf ks) l .layout .states)
 
   pub tied : (ks : List Lent) (l : Model) → Lawful img l → Roomy ks → Tied ks l
-  unfolding replies marksOf lastLayout lastCodes NoneRefused every run answers Roomy
-  tied [] l w h = record { layout = refl; marks = refl; notes = refl; heard = refl; told = refl }
+  unfolding replies marksOf lastLayout lastCodes NoneRefused every run Roomy
+  tied [] l w h = record { layout = refl; marks = refl; heard = refl; told = refl }
   tied (k ∷ ks) l w h =
       let r = call (tableOf img) (k .call) l in
       let e = reply-is (k .call) l (k .buffer) w (h .0) in
@@ -88,23 +87,19 @@ module _ (img : List ℕ) (shape : Shape) (e : checkOf img ≡ Accepted shape) w
       record {
         layout = rw e (t .layout);
         marks = ap₂ _++_ (marks-are (k .call) l (k .buffer) w (h .0)) (rw e (t .marks));
-        notes = rw e (ap (λ (x : List Notes). noted noNotes r ∷ x) (t .notes));
         heard = rw e (t .heard);
         told = rw (e, given-codes r (k .buffer)) (t .told);
       }
 
   -- calls keep a layout lawful
-  lawful-run : (ks : List Call) (l : Model) → Lawful img l → Lawful img (run (tableOf img) ks l .layout)
+  pub lawful-run : (ks : List Call) (l : Model) → Lawful img l → Lawful img (run (tableOf img) ks l .layout)
   unfolding run
   lawful-run [] l w = w
   lawful-run (k ∷ ks) l w = lawful-run ks (call (tableOf img) k l .layout) (stays-lawful k l w)
 
-  -- from a fresh layout
-  pub lawful-fresh : (ks : List Call) → Lawful img (run (tableOf img) ks fresh .layout)
-  lawful-fresh ks = lawful-run ks fresh (fresh-lawful img sound)
-
-  pub tied-fresh : (ks : List Lent) → Roomy ks → Tied ks fresh
-  tied-fresh ks h = tied ks fresh (fresh-lawful img sound) h
+  -- from a start
+  pub tied-start : (start : Model) → Starts img start → (ks : List Lent) → Roomy ks → Tied ks start
+  tied-start start s ks h = tied ks start (starts-lawful img start s) h
 
 -- calls, then ticks
 pub roomy-append : (a b : List Lent) → Roomy a → Roomy b → Roomy (a ++ b)
@@ -112,7 +107,7 @@ unfolding Roomy
 roomy-append [] b h g = g
 roomy-append (k ∷ a) b h g = (h .0, roomy-append a b (h .1) g)
 
-ticks-are : (bs : List (List ℕ)) → callsOf (ticksOn bs) ≡ ticks (length bs)
+pub ticks-are : (bs : List (List ℕ)) → callsOf (ticksOn bs) ≡ ticks (length bs)
 unfolding ticks
 ticks-are [] = refl
 ticks-are (b ∷ bs) = ap (λ (ks : List Call). Tick ∷ ks) (ticks-are bs)

@@ -5,17 +5,9 @@
 use mathlib.Core.List.{List, [], _∷_, _++_}
 use Rattle.event.specs.declared.Coord.{Coord}
 use Rattle.event.specs.declared.Event.{Event}
-use Rattle.image.specs.Table.{Table}
-use Rattle.layout.specs.Model.{Model}
-use Rattle.layout.specs.Packed.{noNotes, noted, actedIn, madeIn}
-use Rattle.layout.specs.declared.run.Notes.{Notes}
-use Rattle.layout.specs.declared.run.Way.{Way}
-use Rattle.demands.specs.Runs.{Call, call}
-
--- the notes of each answer
-unfoldable pub answers : Table → List Call → Model → List Notes
-answers table [] l = []
-answers table (k ∷ ks) l = let r = call table k l in noted noNotes r ∷ answers table ks (r .layout)
+use Rattle.layout.specs.Notes.{actedIn, madeIn}
+use Rattle.layout.specs.declared.notes.Notes.{Notes}
+use Rattle.layout.specs.declared.notes.Way.{Way}
 
 -- the events that the answers name, and their decisions
 unfoldable pub namedEvents : List Notes → List Event

@@ -4,23 +4,22 @@
 use Prim.Native.Nat.{ℕ, _*_}
 use mathlib.Core.Path.{_≡_}
 use mathlib.Core.List.{List, [], _∷_, _++_, map}
-use lib.ListN.{length, take, replicate}
+use lib.ListN.{take, replicate}
 use Rattle.event.specs.declared.Coord.{Coord}
 use Rattle.event.specs.declared.Event.{Event}
 use Rattle.event.specs.declared.Event.the-variants.{Release, Press}
 use Rattle.codes.specs.Report.{reportOf}
 use Rattle.image.specs.Check.{checkOf, toldOf}
-use Rattle.debounce.specs.Calls.{makingVerdict, made, eventsVerdict, told as toldScan, buffered, numberIn, countOf}
+use Rattle.debounce.specs.Calls.{newReply, eventsReply}
 use Rattle.debounce.specs.declared.Debouncer.{Debouncer}
-use Rattle.debounce.specs.declared.Count.{Count}
 use Rattle.layout.specs.Model.{fresh}
-use Rattle.layout.specs.Packed.{actedIn, madeIn}
-use Rattle.layout.specs.Calls.{pack}
-use Rattle.layout.specs.declared.run.Way.{Way}
-use Rattle.layout.specs.declared.run.Way.the-variants.{Tap, Hold}
+use Rattle.layout.specs.Packed.{pack}
+use Rattle.layout.specs.Notes.{actedIn, madeIn}
+use Rattle.layout.specs.Calls.{Reply}
+use Rattle.layout.specs.declared.notes.Way.{Way}
+use Rattle.layout.specs.declared.notes.Way.the-variants.{Tap, Hold}
 use Rattle.demands.specs.Runs.{Call, Tick, Enter}
 use Rattle.demands.specs.Public.{lentAll, replies, codesIn}
-use Rattle.layout.specs.Replies.{Reply}
 use Rattle.demands.specs.Z.{z, lent}
 
 -- what goes in
@@ -68,26 +67,21 @@ says r =
       decided = madeIn (r .told .notes);
     }
 
--- so many events, three bytes each
-abbrev pub scannedAs : Count → List ℕ → Scanned
-scannedAs c buffer = record { number = c .number; events = take (3 * c .count) buffer }
-
--- one scan after the other, one buffer lent to each, as the contract of `Debouncer::events` has it
+-- one scan after the other, one buffer lent to each, as the contract of `Debouncer::events` has it: three bytes an event
 unfoldable pub scans : List (List ℕ) → Debouncer → List ℕ → List Scanned
 scans [] d buffer = []
 scans (scan ∷ rest) d buffer =
-    let v = eventsVerdict d scan (length buffer) in
-    let t = toldScan v d scan in
-    let after = buffered v d scan buffer in
-    scannedAs (countOf (t .telling)) after ∷ scans rest (t .debouncer) after
+    let r = eventsReply d scan buffer in
+    let events = take (3 * r .answer .values .0) (r .buffer) in
+    record { number = r .answer .number; events = events } ∷ scans rest (r .answer .values .1) (r .buffer)
 
 unfoldable pub outcome : Input → Output
 outcome (Check image) = let t = toldOf (checkOf image) in Found (t .number) (t .place)
 outcome (Calls image calls) = Answers (map says (replies image (lentAll lent calls) (pack fresh)))
 outcome (Codes codes) = Report (reportOf codes)
 outcome (Scans rows columns nb start list) =
-    let m = made (makingVerdict rows columns nb start) rows columns nb start in
-    Bounced (numberIn (m .verdict)) (scans list (m .debouncer) (replicate (3 * (rows * columns)) 0))
+    let m = newReply rows columns nb start in
+    Bounced (m .number) (scans list (m .values) (replicate (3 * (rows * columns)) 0))
 
 pub record Case : Type 0 where
   pub given : Input

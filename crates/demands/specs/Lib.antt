@@ -1,11 +1,10 @@
 pub mod Runs
 pub mod Answers
 pub mod Words
-pub mod OnLists
 pub mod Public
 pub mod Limits
 pub mod Demand3
 pub mod Z
-pub mod Reached
+pub mod Witness
 pub mod Bench
 pub mod Ties

@@ -1,24 +1,24 @@
--- Runs of the layout's public calls. What a call hands back is `Rattle.layout.specs.Replies`, which the contracts of `event`
+-- Runs of the layout's public calls. What a call hands back is `Rattle.layout.specs.Calls`, which the contracts of `event`
 -- and `tick` cite: each compiled call meets its contract, and the contract allows one reply alone
--- (crates/layout/proofs/Unique.antt). A run starts from `pack fresh`, the contract of `Layout::new`, each call on the layout
--- that the one before it handed back, over one image, and each with a buffer of its own.
+-- (crates/layout/proofs/Unique.antt). In a run each call is on the layout that the one before it handed back, over one image,
+-- and each with a buffer of its own. What it may start from is `Starts` of crates/layout/specs/Reach.antt.
 -- Assumes nothing.
 use Prim.Native.Nat.{ℕ, _≤_}
 use mathlib.Core.Path.{_≡_}
-use mathlib.Core.Bool.{Bool, true}
+use mathlib.Core.Bool.{true}
 use mathlib.Core.List.{List, [], _∷_, _++_, map}
-use lib.Dec.{eqb, leb}
+use lib.Dec.{eqb}
 use lib.ListN.{length, take}
 use Rattle.lists.specs.Lists.{every}
+use Rattle.refusal.specs.declared.Verdict.{Verdict}
+use Rattle.refusal.specs.declared.Verdict.the-variants.{Fine, Refused}
 use Rattle.image.specs.Table.{tableOf}
-use Rattle.layout.specs.Model.{Mark, Done}
+use Rattle.layout.specs.Model.{Model, Mark, Done}
 use Rattle.layout.specs.Steps.{event, tick}
-use Rattle.layout.specs.Calls.{unpack, judgedOf}
-use Rattle.layout.specs.Replies.{Reply, eventReply, tickReply}
-use Rattle.layout.specs.declared.run.Notes.{Notes}
+use Rattle.layout.specs.Packed.{pack, unpack}
+use Rattle.layout.specs.Calls.{judgedOf, Reply, eventReply, tickReply}
+use Rattle.layout.specs.declared.notes.Notes.{Notes}
 use Rattle.layout.specs.declared.layout.Layout.{Layout}
-use Rattle.layout.specs.declared.layout.Judged.{Judged}
-use Rattle.layout.specs.declared.layout.Judged.the-variants as judged
 use Rattle.demands.specs.Runs.{Call, Tick, Enter}
 
 -- a call and the buffer that it is lent
@@ -57,20 +57,26 @@ unfoldable pub step : List ℕ → Call → Layout → Done
 step image Tick layout = tick (tableOf image) (unpack image layout)
 step image (Enter e) layout = event (tableOf image) e (unpack image layout)
 
-unfoldable pub marksIf : Judged → Done → List Mark
-marksIf (judged.Fine layers) done = done .marks
-marksIf (judged.Refused refusal place) done = []
+unfoldable pub marksIf : Verdict → Done → List Mark
+marksIf Fine done = done .marks
+marksIf (Refused refusal place) done = []
+
+abbrev pub didBy : List ℕ → Call → Layout → List ℕ → List Mark
+didBy image k layout buffer = marksIf (judgedOf image layout (length buffer)) (step image k layout)
 
 unfoldable pub marksOf : List ℕ → List Lent → Layout → List Mark
 marksOf image [] layout = []
 marksOf image (k ∷ ks) layout =
-    let r = reply image (k .call) layout (k .buffer) in
-    marksIf (judgedOf image layout (length (k .buffer))) (step image (k .call) layout) ++ marksOf image ks (r .layout)
+    didBy image (k .call) layout (k .buffer) ++ marksOf image ks (reply image (k .call) layout (k .buffer) .layout)
 
 -- the layout that the last call handed back; before any call, the one that there is
 unfoldable pub lastLayout : Layout → List Reply → Layout
 lastLayout layout [] = layout
 lastLayout layout (r ∷ rs) = lastLayout (r .layout) rs
+
+-- the layout after calls on a start
+abbrev pub after : List ℕ → Model → List Lent → Layout
+after image start calls = lastLayout (pack start) (replies image calls (pack start))
 
 -- the codes of an answer: the first bytes of the buffer, as many as the answer says
 abbrev pub codesIn : Reply → List ℕ

@@ -1,39 +1,89 @@
--- The two ties of document 01, "Easy errors": a release as many ticks after its press as the timeout. Live, the key has become
--- hold at that tick, before the release can come. Queued behind a wait, the release decides it, and it is tap.
+-- The two ties of document 01, "Easy errors": a release as many ticks after its press as the timeout. Both are said of runs of
+-- the public calls (specs/Public.antt), on any layout that calls lead to over an accepted image.
+--     LiveTie       the press is acted on at its first tick: at the tick of the tie, before the release can come, it is hold
+--     QueuedTie     press and release are queued behind another key's wait: the release decides it, and it is tap
 -- Assumes nothing.
-use Prim.Native.Nat.{ℕ, suc, _+_}
+use Prim.Native.Nat.{ℕ, suc, _+_, _≤_, _<_}
 use mathlib.Core.Path.{_≡_}
-use mathlib.Core.Bool.{true}
-use mathlib.Core.List.{List, [], _∷_}
+use mathlib.Core.Bool.{false}
+use mathlib.Core.List.{List, [], _∷_, _++_}
+use lib.ListN.{length}
 use Rattle.event.specs.declared.Coord.{Coord}
-use Rattle.event.specs.declared.Event.the-variants.{Press}
-use Rattle.image.specs.Legal.{closed}
-use Rattle.image.specs.Table.{Table}
+use Rattle.event.specs.declared.Event.the-variants.{Release, Press}
+use Rattle.image.specs.Check.{checkOf}
+use Rattle.image.specs.Table.{tableOf}
 use Rattle.image.specs.Tree.{Action, HoldTap}
-use Rattle.layout.specs.Actions.{Now, verdict}
-use Rattle.layout.specs.Model.{fresh}
-use Rattle.layout.specs.Packed.{decisions}
-use Rattle.layout.specs.declared.queue.Found.the-variants.{At}
-use Rattle.layout.specs.declared.run.Way.{Way}
-use Rattle.layout.specs.declared.run.Way.the-variants.{Tap, Hold}
-use Rattle.demands.specs.Runs.{Enter, run, ticks}
+use Rattle.image.specs.declared.words.Shape.{Shape}
+use Rattle.image.specs.declared.rules.Checked.the-variants.{Accepted}
+use Rattle.layout.specs.Model.{Waits, same}
+use Rattle.layout.specs.Steps.{pressed}
+use Rattle.layout.specs.Packed.{unpack}
+use Rattle.layout.specs.Reach.{Reached}
+use Rattle.layout.specs.declared.layout.Layout.{Layout}
+use Rattle.layout.specs.declared.notes.Way.{Way}
+use Rattle.layout.specs.declared.notes.Way.the-variants.{Tap, Hold}
+use Rattle.demands.specs.Runs.{Enter}
+use Rattle.demands.specs.Answers.{namedDecisions}
+use Rattle.demands.specs.Public.{Lent, ticksOn, Roomy, replies, lastLayout, notesOf}
+use Rattle.demands.specs.Demand3.{AtRest}
 
--- the decisions of a press on a fresh layout, and so many ticks
-abbrev pub decidedBy : Table → ℕ → ℕ → ℕ → List (Coord × Way)
-decidedBy table i j n = decisions (run table (Enter (Press i j) ∷ ticks n) fresh .marks)
+-- the decisions that the answers to calls on a layout name
+abbrev pub decidedBy : List ℕ → Layout → List Lent → List (Coord × Way)
+decidedBy image layout calls = namedDecisions (notesOf (replies image calls layout))
 
--- of a HoldTap whose timeout is k and two, with a hold that is not open: undecided one tick before, and hold at the tick of the
--- tie
-pub record Live (table : Table) (i j k : ℕ) : Type 0 where
-  pub before : decidedBy table i j (suc k) ≡ []
-  pub at : decidedBy table i j (suc (suc k)) ≡ (record { i = i; j = j }, Hold) ∷ []
+-- what a press of the key runs in a layout is a HoldTap of such a timeout
+pub record Keyed (image : List ℕ) (layout : Layout) (c : Coord) (timeout : ℕ) : Type 0 where
+  pub number : ℕ
+  pub hold : Action
+  pub tap : Action
+  pub is : pressed (tableOf image) c (unpack image layout) ≡ HoldTap number timeout hold tap
 
+-- a press, then ticks alone, one for each buffer
+abbrev pub pressOn : Coord → List ℕ → List (List ℕ) → List Lent
+pressOn c b bs = record { call = Enter (Press (c .i) (c .j)); buffer = b } ∷ ticksOn bs
+
+-- undecided one tick before the tie, and hold at the tick of the tie
+pub record Live (image : List ℕ) (layout : Layout) (c : Coord) (timeout : ℕ) : Type 0 where
+  pub before :
+      (b : List ℕ) (bs : List (List ℕ)) → Roomy (pressOn c b bs)
+      → suc (length bs) ≡ timeout → decidedBy image layout (pressOn c b bs) ≡ []
+  pub at :
+      (b : List ℕ) (bs : List (List ℕ)) → Roomy (pressOn c b bs)
+      → length bs ≡ timeout → decidedBy image layout (pressOn c b bs) ≡ (c, Hold) ∷ []
+
+-- nothing waits and nothing is queued, whatever is held; the timeout is 2 or more
 unfoldable pub LiveTie : Type 0
 LiveTie =
-    (table : Table) (i j n k : ℕ) (hold tap : Action) → table .cell 0 i j ≡ HoldTap n (suc (suc k)) hold tap → closed hold ≡ true
-    → Live table i j k
+    (image : List ℕ) (shape : Shape) → checkOf image ≡ Accepted shape
+    → (layout : Layout) → Reached image layout → AtRest layout
+    → (c : Coord) (timeout : ℕ) → 2 ≤ timeout → Keyed image layout c timeout → Live image layout c timeout
 
--- a queued release whose press is older than it by the timeout, and by one tick more
-pub record QueuedTie : Type 0 where
-  pub at : (timeout age : ℕ) → verdict timeout (age + timeout) (At age) ≡ Now Tap
-  pub past : (timeout age : ℕ) → verdict timeout (age + suc timeout) (At age) ≡ Now Hold
+-- a press, ticks, its release, and ticks again, one for each buffer
+abbrev pub pressAndRelease : Coord → List ℕ → List (List ℕ) → List ℕ → List (List ℕ) → List Lent
+pressAndRelease c p gap r rest =
+    record { call = Enter (Press (c .i) (c .j)); buffer = p }
+    ∷ (ticksOn gap ++ (record { call = Enter (Release (c .i) (c .j)); buffer = r } ∷ ticksOn rest))
+
+-- a key waits, with so many ticks left, and nothing is queued
+pub record Held (image : List ℕ) (layout : Layout) (d : Coord) (left : ℕ) : Type 0 where
+  pub number : ℕ
+  pub hold : Action
+  pub tap : Action
+  pub is : unpack image layout .waiting ≡ Waits d left number hold tap
+  pub empty : unpack image layout .queue ≡ []
+
+-- the next tick acts on the press, and the release behind it decides: tap at the tie, hold one tick past it
+pub record Behind (image : List ℕ) (layout : Layout) (c : Coord) (gap timeout : ℕ) : Type 0 where
+  pub at : (b : List ℕ) → 64 ≤ length b → gap ≡ timeout → decidedBy image layout (ticksOn (b ∷ [])) ≡ (c, Tap) ∷ []
+  pub past : (b : List ℕ) → 64 ≤ length b → gap ≡ suc timeout → decidedBy image layout (ticksOn (b ∷ [])) ≡ (c, Hold) ∷ []
+
+-- another key waits, and its ticks end with the last of the calls. Ages stop at 65,535, so they are fewer than that
+unfoldable pub QueuedTie : Type 0
+QueuedTie =
+    (image : List ℕ) (shape : Shape) → checkOf image ≡ Accepted shape
+    → (layout : Layout) → Reached image layout
+    → (d : Coord) (left : ℕ) → Held image layout d left → (c : Coord) → same d c ≡ false
+    → (p : List ℕ) (gap : List (List ℕ)) (r : List ℕ) (rest : List (List ℕ)) → Roomy (pressAndRelease c p gap r rest)
+    → left ≡ length gap + length rest → 1 ≤ length rest → left < 65535
+    → let after = lastLayout layout (replies image (pressAndRelease c p gap r rest) layout) in
+    (timeout : ℕ) → Keyed image after c timeout → Behind image after c (length gap) timeout

@@ -8,7 +8,7 @@ use Rattle.event.specs.Bytes.{coordOf}
 use Rattle.event.specs.declared.Coord.{Coord}
 use Rattle.event.specs.declared.Event.{Event}
 use Rattle.event.specs.declared.Event.the-variants.{Release, Press}
-use Rattle.image.specs.Legal.{Times}
+use Rattle.image.specs.Proper.{Times}
 use Rattle.layout.specs.Model.{Mark, Acted, Begun, Decided, same}
 
 -- 2q + max(1, M)

@@ -26,3 +26,8 @@ readAs kind i j = cond (eqb kind 0) (read.Event (Release i j)) (cond (eqb kind 1
 
 abbrev pub readOf : List ℕ → Read
 readOf bytes = readAs (getD bytes 0 0) (getD bytes 1 0) (getD bytes 2 0)
+
+-- the values of what was read, case by case: the event's three bytes, or none
+abbrev pub readValues : Read → List ℕ
+readValues (read.Event e) = bytesOf e
+readValues read.Nothing = []

@@ -2,7 +2,7 @@
 // events, and layout, which takes them. `Release` is first, since it has the number 0 in the event's bytes.
 // Assumes nothing.
 ghost use mathlib.Core.Path.{_≡_};
-ghost use Rattle.event.specs.Bytes.{coordOf, bytesOf, readOf};
+ghost use Rattle.event.specs.Bytes.{coordOf, bytesOf, readOf, readValues};
 
 pub enum Event {
     Release(u8, u8),
@@ -43,7 +43,7 @@ impl Event {
 
     // The event that three bytes are of, or nothing where the first is neither 0 nor 1.
     pub fn read(bytes: [u8; 3]) -> Read
-        ensures { λ r. ⌜ r ≡ readOf bytes ⌝ }
+        ensures { λ r. ⌜ readValues r ≡ readValues (readOf bytes) ⌝ }
     {
         let kind = bytes[0];
         let i = bytes[1];

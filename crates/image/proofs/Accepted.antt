@@ -8,7 +8,7 @@
 --     hold-lower, entry-lower, key-legal, entry-legal, code-byte     the parts of `tells`, a word at a time
 --     entries-step, all-head, all-tail, named-step, named-none     a loop over the entries of a record, one step along it
 --     settles, light          the open rule and the weight, of every tree
---     legal-table, times-word     every action of the table is legal with the image's longest hold time, which is a word
+--     proper-table, times-word     every action of the table is proper with the image's longest hold time, which is a word
 -- Assumes nothing.
 use mathlib.Core.Path.{_≡_, refl, sym, ap, subst, _∙_}
 use mathlib.Core.Bool.{Bool, true, false, cond, not, _&&_, _||_}
@@ -25,29 +25,31 @@ use Rattle.codes.specs.Codes.{legal as legalCode}
 use Rattle.refusal.specs.declared.Refusal.the-variants as refusal
 use Rattle.image.specs.Words.{wordAt, layersOf, rowsOf, columnsOf, recordsOf, entriesOf, shapeOf, cellsOf, sizeOf, cellOf, fieldOf, entryOf, entries}
 use Rattle.image.specs.Record.{recordOf, actionAt, codesIn, childrenIn, listEnd, cellPlace, isInside, cellAt, entryAt}
-use Rattle.image.specs.Tree.{Action, Actions, NoOp, Trans, KeyCode, MultipleKeyCodes, MultipleActions, Layer, DefaultLayer, HoldTap, end, _&_, named, meaning, tree, open?, someOpen, shutButLast, settled, weight, longest, longestOf}
-use Rattle.image.specs.Legal.{closed, closedAll, Times, holdable, legal, legalAll}
+use Rattle.image.specs.Tree.{Action, Actions, NoOp, Trans, KeyCode, MultipleKeyCodes, MultipleActions, Layer, DefaultLayer, HoldTap, end, _&_, named, meaning, tree, open?, someOpen, shutButLast, opensLast, weight, longest, longestOf}
+use Rattle.image.specs.Proper.{closed, closedAll, Times, holdable, proper, properAll}
 use Rattle.image.specs.Table.{tableOf, treeIn, longestBelow, timesOf}
 use Rattle.lists.specs.Lists.{every}
 use Rattle.lists.proofs.Laws.{both-true, every-head}
-use Rattle.image.specs.Check.{headFault, cellFault, recordFault, firstFault, bodyFault, faultOf, answer, checkOf}
+use Rattle.refusal.specs.Verdict.{firstFault}
+use Rattle.image.specs.Check.{headFault, cellFault, recordFault, bodyFault, faultOf, answer, checkOf}
 use Rattle.image.specs.Sound.{Sound, Meant}
 use Rattle.image.specs.Use.{areaOf, sourceOf}
 use Rattle.image.specs.declared.words.Shape.{Shape}
-use Rattle.image.specs.declared.record.Action.{Action as Record}
+use Rattle.image.specs.declared.record.Action.{Action as Coded}
 use Rattle.image.specs.declared.record.Action.the-variants as code
 use Rattle.image.specs.declared.record.Cell.{Cell}
 use Rattle.image.specs.declared.record.Cell.the-variants as cell
 use Rattle.image.specs.declared.record.Entry.the-variants as entry
-use Rattle.image.specs.declared.rules.Fault.{Fault}
-use Rattle.image.specs.declared.rules.Fault.the-variants.{Fine, At}
+use Rattle.refusal.specs.declared.Verdict.{Verdict}
+use Rattle.refusal.specs.declared.Verdict.the-variants.{Fine, Refused}
 use Rattle.image.specs.declared.rules.Checked.the-variants.{Accepted}
 use Rattle.image.specs.declared.areas.Source.the-variants.{Operator, BuiltIn}
-use Rattle.image.proofs.Faults.{not-or, rule-fine, or-fine, fine-all}
-use Rattle.image.proofs.Header.{framed, cell-kept}
+use Rattle.refusal.proofs.Verdicts.{rule-fine, or-fine, fine-all}
+use Rattle.image.proofs.Tests.{not-or}
+use Rattle.image.proofs.HeaderRules.{framed, cell-kept}
 use Rattle.image.proofs.Entries.{all-at, two-of, below-byte}
 use Rattle.image.proofs.Trees.{meant, either, by-kind}
-use Rattle.image.proofs.Records.{good}
+use Rattle.image.proofs.RecordRules.{good}
 use Rattle.image.proofs.Chosen.{area-accepted, operator-chosen, built-in-chosen}
 pub use Rattle.image.proofs.Entries.{entries-step, length-entries, all-head, all-tail, named-step, named-none}
 
@@ -62,10 +64,10 @@ sound img e =
       records = λ n l. good img n l (fine-all (recordFault img) (recordsOf img) (q .1) n l);
     }
 
-is-accepted : (f : Fault) (s t : Shape) → answer f s ≡ Accepted t → (f ≡ Fine) × (t ≡ s)
+is-accepted : (f : Verdict) (s t : Shape) → answer f s ≡ Accepted t → (f ≡ Fine) × (t ≡ s)
 unfolding answer
 is-accepted Fine s t e = (refl, cc)
-is-accepted (At r p) s t e = (cc, cc)
+is-accepted (Refused r p) s t e = (cc, cc)
 
 pub accepted : (img : List ℕ) (s : Shape) → checkOf img ≡ Accepted s → (s ≡ shapeOf img) × Sound img
 unfolding checkOf
@@ -97,7 +99,7 @@ past-meant : (img : List ℕ) (n : ℕ) → actionAt img n ≡ code.NoOp → Mea
 unfolding tree meaning listEnd codesIn childrenIn every
 past-meant img n e = record { is = rw e; listed = omega arith; codes = refl; lower = refl }
 
-pub tells : (img : List ℕ) (n : ℕ) {r x : Record} → Sound img → r ≡ actionAt img n → r ≡ x → Meant img n x
+pub tells : (img : List ℕ) (n : ℕ) {r x : Coded} → Sound img → r ≡ actionAt img n → r ≡ x → Meant img n x
 tells img n {r} {x} s e f = go (decLt n (recordsOf img))
   where
     go : Dec (n < recordsOf img) → Meant img n x
@@ -174,13 +176,13 @@ unfolding entryAt
 entry-not img e h = ltb-false e (entriesOf img) (is-none (ltb e (entriesOf img)) (entryOf img e) h)
 
 -- every tree keeps the open rule, and weighs at most 64
-pub settles : (img : List ℕ) (n : ℕ) → Sound img → settled (tree img n) ≡ true
-unfolding settled meaning
+pub settles : (img : List ℕ) (n : ℕ) → Sound img → opensLast (tree img n) ≡ true
+unfolding opensLast meaning
 settles img n s = go (decLt n (recordsOf img))
   where
-    go : Dec (n < recordsOf img) → settled (tree img n) ≡ true
+    go : Dec (n < recordsOf img) → opensLast (tree img n) ≡ true
     go (yes l) = s .records n l .settles
-    go (no g) = ap settled (past-meant img n (past img n (omega arith)) .is)
+    go (no g) = ap opensLast (past-meant img n (past img n (omega arith)) .is)
 
 pub light : (img : List ℕ) (n : ℕ) → Sound img → weight (tree img n) ≤ 64
 unfolding weight meaning
@@ -226,51 +228,51 @@ or-right : (a : Bool) → (a || true) ≡ true
 or-right true = refl
 or-right false = refl
 
--- a list of trees is legal where each is, and the open rule holds of the list
-legal-named : (t : ℕ → Action) (n : ℕ) (m : Times) → ((k : ℕ) → k < n → longest (t k) ≤ m .first → legal (t k) m ≡ true) → (ks : List ℕ) → every (λ k. ltb k n) ks ≡ true → shutButLast (named t ks) ≡ true → longestOf (named t ks) ≤ m .first → legalAll (named t ks) m ≡ true
-unfolding named every shutButLast longest legal
-legal-named t n m f [] l s w = refl
-legal-named t n m f (k ∷ []) l s w =
-    and-both ((closed (t k) || true) && legal (t k) m) true
-    (and-both (closed (t k) || true) (legal (t k) m) (or-right (closed (t k))) (f k (ltb-true k n (every-head (λ k. ltb k n) k [] l .0)) (omega arith)))
+-- a list of trees is proper where each is, and the open rule holds of the list
+proper-named : (t : ℕ → Action) (n : ℕ) (m : Times) → ((k : ℕ) → k < n → longest (t k) ≤ m .first → proper (t k) m ≡ true) → (ks : List ℕ) → every (λ k. ltb k n) ks ≡ true → shutButLast (named t ks) ≡ true → longestOf (named t ks) ≤ m .first → properAll (named t ks) m ≡ true
+unfolding named every shutButLast longest proper
+proper-named t n m f [] l s w = refl
+proper-named t n m f (k ∷ []) l s w =
+    and-both ((closed (t k) || true) && proper (t k) m) true
+    (and-both (closed (t k) || true) (proper (t k) m) (or-right (closed (t k))) (f k (ltb-true k n (every-head (λ k. ltb k n) k [] l .0)) (omega arith)))
     refl
-legal-named t n m f (k ∷ (j ∷ ks)) l s w =
+proper-named t n m f (k ∷ (j ∷ ks)) l s w =
     let low = every-head (λ k. ltb k n) k (j ∷ ks) l in
     let shut = both-true (not (open? (t k))) _ s in
-    and-both ((closed (t k) || false) && legal (t k) m) (legalAll (t j & named t ks) m)
-    (and-both (closed (t k) || false) (legal (t k) m) (or-left (closed (t k)) false (open-closed (t k) ∙ shut .0)) (f k (ltb-true k n (low .0)) (omega arith)))
-    (legal-named t n m f (j ∷ ks) (low .1) (shut .1) (omega arith))
+    and-both ((closed (t k) || false) && proper (t k) m) (properAll (t j & named t ks) m)
+    (and-both (closed (t k) || false) (proper (t k) m) (or-left (closed (t k)) false (open-closed (t k) ∙ shut .0)) (f k (ltb-true k n (low .0)) (omega arith)))
+    (proper-named t n m f (j ∷ ks) (low .1) (shut .1) (omega arith))
 
-legal-means : (img : List ℕ) (n : ℕ) (m : Times) (x : Record) → ((k : ℕ) → k < n → longest (tree img k) ≤ m .first → legal (tree img k) m ≡ true) → every (λ k. ltb k n) (childrenIn img x) ≡ true → settled (meaning img (tree img) n x) ≡ true → longest (meaning img (tree img) n x) ≤ m .first → legal (meaning img (tree img) n x) m ≡ true
-unfolding meaning childrenIn settled longest legal holdable
-legal-means img n m code.NoOp f l s w = refl
-legal-means img n m code.Trans f l s w = refl
-legal-means img n m (code.KeyCode k) f l s w = refl
-legal-means img n m (code.MultipleKeyCodes a b) f l s w = refl
-legal-means img n m (code.MultipleActions a b) f l s w = legal-named (tree img) n m f (entries img a b) l s w
-legal-means img n m (code.Layer k) f l s w = refl
-legal-means img n m (code.DefaultLayer k) f l s w = refl
-legal-means img n m (code.HoldTap t h p) f l s w =
+proper-means : (img : List ℕ) (n : ℕ) (m : Times) (x : Coded) → ((k : ℕ) → k < n → longest (tree img k) ≤ m .first → proper (tree img k) m ≡ true) → every (λ k. ltb k n) (childrenIn img x) ≡ true → opensLast (meaning img (tree img) n x) ≡ true → longest (meaning img (tree img) n x) ≤ m .first → proper (meaning img (tree img) n x) m ≡ true
+unfolding meaning childrenIn opensLast longest proper holdable
+proper-means img n m code.NoOp f l s w = refl
+proper-means img n m code.Trans f l s w = refl
+proper-means img n m (code.KeyCode k) f l s w = refl
+proper-means img n m (code.MultipleKeyCodes a b) f l s w = refl
+proper-means img n m (code.MultipleActions a b) f l s w = proper-named (tree img) n m f (entries img a b) l s w
+proper-means img n m (code.Layer k) f l s w = refl
+proper-means img n m (code.DefaultLayer k) f l s w = refl
+proper-means img n m (code.HoldTap t h p) f l s w =
     let shut = both-true (not (open? (tree img h))) (not (open? (tree img p))) s in
     and-both (leb t (m .first)) (closed (tree img h) && closed (tree img p)) (le-leb t (m .first) (omega arith))
     (and-both (closed (tree img h)) (closed (tree img p)) (open-closed (tree img h) ∙ shut .0) (open-closed (tree img p) ∙ shut .1))
 
--- every tree is legal with times that its own do not pass
-legal-tree : (img : List ℕ) (m : Times) → Sound img → (n : ℕ) → longest (tree img n) ≤ m .first → legal (tree img n) m ≡ true
-legal-tree img m s =
-    by-lower (λ n. longest (tree img n) ≤ m .first → legal (tree img n) m ≡ true) (λ n f w.
+-- every tree is proper with times that its own do not pass
+proper-tree : (img : List ℕ) (m : Times) → Sound img → (n : ℕ) → longest (tree img n) ≤ m .first → proper (tree img n) m ≡ true
+proper-tree img m s =
+    by-lower (λ n. longest (tree img n) ≤ m .first → proper (tree img n) m ≡ true) (λ n f w.
     let e = tells img n s refl refl in
-    rw (e .is) (legal-means img n m (actionAt img n) f (e .lower) (rw (e .is) at (settles img n s)) (rw (e .is) at w)))
+    rw (e .is) (proper-means img n m (actionAt img n) f (e .lower) (rw (e .is) at (settles img n s)) (rw (e .is) at w)))
 
 longest-under : (f : ℕ → ℕ) (n k : ℕ) → k < n → f k ≤ longestBelow f n
 unfolding longestBelow
 longest-under f zero k h = absurd (not-suc-le-zero h)
 longest-under f (suc n) k h = ⊎-elim (λ e. rw e (omega arith)) (λ l. omega (arith, longest-under f n k l)) (eq-or-lt-of-le (le-of-suc-le-suc h))
 
-legal-in : (img : List ℕ) (x : Cell) → Sound img → ((n : ℕ) → x ≡ cell.Record n → longest (tree img n) ≤ timesOf img .first) → legal (treeIn img x) (timesOf img) ≡ true
-unfolding treeIn legal
-legal-in img (cell.Record n) s f = legal-tree img (timesOf img) s n (f n refl)
-legal-in img cell.Outside s f = refl
+proper-in : (img : List ℕ) (x : Cell) → Sound img → ((n : ℕ) → x ≡ cell.Record n → longest (tree img n) ≤ timesOf img .first) → proper (treeIn img x) (timesOf img) ≡ true
+unfolding treeIn proper
+proper-in img (cell.Record n) s f = proper-tree img (timesOf img) s n (f n refl)
+proper-in img cell.Outside s f = refl
 
 longest-cell : (img : List ℕ) (l r c n : ℕ) → cellAt img l r c ≡ cell.Record n → longest (tree img n) ≤ timesOf img .first
 unfolding timesOf
@@ -278,8 +280,8 @@ longest-cell img l r c n e =
     let h = cell-place img l r c n e in
     rw (h .1) (longest-under (λ i. longest (tree img (cellOf img i))) (cellsOf img) (cellPlace img l r c) (h .0))
 
-pub legal-table : (img : List ℕ) (l r c : ℕ) → Sound img → T (legal (tableOf img .cell l r c) (timesOf img))
-legal-table img l r c s = subst T (sym (legal-in img (cellAt img l r c) s (λ n e. longest-cell img l r c n e))) tt
+pub proper-table : (img : List ℕ) (l r c : ℕ) → Sound img → T (proper (tableOf img .cell l r c) (timesOf img))
+proper-table img l r c s = subst T (sym (proper-in img (cellAt img l r c) s (λ n e. longest-cell img l r c n e))) tt
 
 -- the longest hold time of an image of bytes is a word
 word-bound : (img : List ℕ) (at : ℕ) → ((i : ℕ) → getD img i 0 < 256) → wordAt img at ≤ 65535
@@ -297,7 +299,7 @@ longest-named t n f (k ∷ ks) l =
 longest-record : (img : List ℕ) (n : ℕ) → ((i : ℕ) → getD img i 0 < 256) → ((k : ℕ) → k < n → longest (tree img k) ≤ 65535) → every (λ k. ltb k n) (childrenIn img (actionAt img n)) ≡ true → longest (meaning img (tree img) n (actionAt img n)) ≤ 65535
 unfolding actionAt meaning childrenIn longest fieldOf
 longest-record img n b f =
-    let P : Record → Type 0 = λ x. every (λ k. ltb k n) (childrenIn img x) ≡ true → longest (meaning img (tree img) n x) ≤ 65535 in
+    let P : Coded → Type 0 = λ x. every (λ k. ltb k n) (childrenIn img x) ≡ true → longest (meaning img (tree img) n x) ≤ 65535 in
     let many = longest-named (tree img) n f in
     let held : (t h p : ℕ) → t ≤ 65535 → every (λ k. ltb k n) (h ∷ p ∷ []) ≡ true → max t (max (longest (tree img h)) (longest (tree img p))) ≤ 65535
     = λ t h p w l. let two = two-of (λ k. ltb k n) h p l in omega (arith, f h (ltb-true h n (two .0)), f p (ltb-true p n (two .1))) in

@@ -1,4 +1,4 @@
--- Laws of the list: one step along its entries, what a test of every entry says, and the same words as a row.
+-- Laws of the list: one step along its entries, what a test of every entry says, and words one after the other.
 -- Assumes nothing.
 use mathlib.Core.Path.{_≡_, refl, sym, ap, _∙_}
 use mathlib.Core.Bool.{Bool, true, false, _&&_, _||_}
@@ -8,17 +8,16 @@ use Prim.Native.Nat.{ℕ, zero, suc, _+_, _-_, _*_, _<_, _≤_}
 use native.Mathlib.Nat.{le-of-suc-le-suc, not-suc-le-zero}
 use native.Mathlib.Numerals.{sub-one}
 use native.Mathlib.Omega.{arith}
-use borrow.Author.Tests.{leb-true, ltb-true, lt-ltb}
+use borrow.Author.Tests.{leb-true}
 use lib.ListN.{length}
-use lib.Dec.{leb, ltb}
+use lib.Dec.{leb}
 use Rattle.lists.specs.Lists.{every}
 use Rattle.lists.proofs.Laws.{both-true, every-head}
 use Rattle.codes.specs.Codes.{legal}
-use Rattle.image.specs.Words.{listAt, entryOf, entries, wordAt, wordsFrom}
+use Rattle.image.specs.Inside.{wordsFrom}
+use Rattle.image.specs.Words.{listAt, entryOf, entries, wordAt}
 use Rattle.image.specs.Tree.{Action, end, _&_, named}
-use Rattle.image.specs.Heft.{heft, hefts}
-use Rattle.image.specs.Sound.{Rowed}
-use Rattle.image.proofs.Faults.{and-yes, and-true}
+use Rattle.image.proofs.Tests.{and-true}
 
 -- a legal code fits a byte
 or-cases : (a b c : Bool) → (a || (b && c)) ≡ true → (a ≡ true) ⊎ (c ≡ true)
@@ -93,7 +92,7 @@ module _ (l : ℕ → Action) (img : List ℕ) (e n : ℕ) where
   unfolding named
   named-none h = rw (entries-none img e n h)
 
--- one word of a row, and those after it
+-- one word, and those after it
 module _ (img : List ℕ) (at n : ℕ) where
   words-step : 0 < n → wordsFrom img at n ≡ wordAt img at ∷ wordsFrom img (at + 2) (n - 1)
   unfolding wordsFrom
@@ -101,19 +100,19 @@ module _ (img : List ℕ) (at n : ℕ) where
       let k : n ≡ suc (n - 1) = omega arith in
       ap (wordsFrom img at) k
 
-  pub row-head : (t : ℕ → Bool) → 0 < n → every t (wordsFrom img at n) ≡ true → t (wordAt img at) ≡ true
-  row-head t h g = every-head t _ _ (rw (words-step h) at g) .0
+  pub words-head : (t : ℕ → Bool) → 0 < n → every t (wordsFrom img at n) ≡ true → t (wordAt img at) ≡ true
+  words-head t h g = every-head t _ _ (rw (words-step h) at g) .0
 
-  pub row-tail : (t : ℕ → Bool) → 0 < n → every t (wordsFrom img at n) ≡ true → every t (wordsFrom img (at + 2) (n - 1)) ≡ true
-  row-tail t h g = every-head t _ _ (rw (words-step h) at g) .1
+  pub words-tail : (t : ℕ → Bool) → 0 < n → every t (wordsFrom img at n) ≡ true → every t (wordsFrom img (at + 2) (n - 1)) ≡ true
+  words-tail t h g = every-head t _ _ (rw (words-step h) at g) .1
 
-  pub row-on : (l : ℕ → Action) → 0 < n → hefts (named l (wordsFrom img at n)) ≡ heft (l (wordAt img at)) + hefts (named l (wordsFrom img (at + 2) (n - 1)))
-  unfolding hefts named
-  row-on l h = rw (words-step h)
+  pub words-on : (l : ℕ → Action) → 0 < n → named l (wordsFrom img at n) ≡ l (wordAt img at) & named l (wordsFrom img (at + 2) (n - 1))
+  unfolding named
+  words-on l h = rw (words-step h)
 
-  pub row-none : (l : ℕ → Action) → n ≤ 0 → hefts (named l (wordsFrom img at n)) ≡ 0
-  unfolding hefts named wordsFrom
-  row-none l h =
+  pub words-none : (l : ℕ → Action) → n ≤ 0 → named l (wordsFrom img at n) ≡ end
+  unfolding named wordsFrom
+  words-none l h =
       let k : n ≡ 0 = omega arith in
       rw k
 
@@ -136,7 +135,7 @@ unfolding wordsFrom
 length-words img at zero = refl
 length-words img at (suc n) = ap suc (length-words img (at + 2) n)
 
--- a row is its words but the last, and the last
+-- words are those but the last, and the last
 words-end : (img : List ℕ) (at n : ℕ) → wordsFrom img at (suc n) ≡ wordsFrom img at n ++ wordAt img (at + 2 * n) ∷ []
 unfolding wordsFrom
 words-end img at zero =
@@ -151,18 +150,7 @@ words-last img at n h =
     let k : n ≡ suc (n - 1) = omega arith in
     ap (wordsFrom img at) k ∙ words-end img at (n - 1)
 
--- numbers below k are below n, where k is not above it
-lower-still : (k n : ℕ) (js : List ℕ) → k ≤ n → every (λ j. ltb j k) js ≡ true → every (λ j. ltb j n) js ≡ true
-unfolding every
-lower-still k n [] h e = refl
-lower-still k n (j ∷ js) h e =
-    let both = every-head (λ j. ltb j k) j js e in
-    sym (and-yes (ltb j n) _ (lt-ltb j n (omega (arith, h, ltb-true j k (both .0)))) (sym (lower-still k n js h (both .1))))
-
-pub rowed-still : (img : List ℕ) (k n at count : ℕ) → k ≤ n → Rowed img k at count → Rowed img n at count
-rowed-still img k n at count h r = record { inside = r .inside; few = r .few; lower = lower-still k n (wordsFrom img at count) h (r .lower) }
-
--- a stretch of the list is a row
+-- a stretch of the list is words one after the other
 pub entries-words : (img : List ℕ) (e n : ℕ) → entries img e n ≡ wordsFrom img (listAt img + 2 * e) n
 unfolding entries entryOf wordsFrom
 entries-words img e zero = refl

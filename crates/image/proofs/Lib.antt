@@ -1,10 +1,10 @@
 pub mod Said
-pub mod Faults
-pub mod Header
+pub mod Tests
+pub mod HeaderRules
 pub mod Entries
 pub mod Trees
-pub mod Hefts
-pub mod Records
+pub mod Weights
+pub mod RecordRules
 pub mod Chosen
 pub mod Accepted
 pub mod Unique

@@ -1,86 +1,73 @@
 -- An answer is known by what document 01 says of it: its number, its place and its values. Assumes nothing.
-use Prim.Native.Nat.{ℕ, zero, suc}
 use mathlib.Core.Path.{_≡_, refl, ap, sym, _∙_}
-use mathlib.Core.Bool.{false, cond}
-use mathlib.Core.List.{List}
-use lib.Dec.{eqb}
+use mathlib.Core.Bool.{cond}
 use lib.ListN.{getD}
-use Rattle.refusal.specs.Number.{numberOf}
-use Rattle.refusal.specs.declared.Refusal.{Refusal}
-use Rattle.refusal.specs.declared.Refusal.the-variants.{Short, Header, Length, Cell, Record, Code, Child, Nested, Weight, Scan, Bounce, Room, State, Request}
-use Rattle.image.specs.Check.{Said, saidOf, checkOf}
+use Rattle.refusal.specs.Said.{Said}
+use Rattle.refusal.proofs.Said.{answerBack, refused-back}
+use Rattle.image.specs.Record.{actionOf, RecordWords, actionWords, cellValue, entryValue}
+use Rattle.image.specs.Check.{saidOf, noShape}
+use Rattle.image.specs.Use.{Stretch, noStretch, sourceSaid}
 use Rattle.image.specs.declared.words.Shape.{Shape}
+use Rattle.image.specs.declared.record.Action.{Action}
+use Rattle.image.specs.declared.record.Action.the-variants as code
+use Rattle.image.specs.declared.record.Cell.{Cell}
+use Rattle.image.specs.declared.record.Cell.the-variants as cell
+use Rattle.image.specs.declared.record.Entry.{Entry}
+use Rattle.image.specs.declared.record.Entry.the-variants as entry
 use Rattle.image.specs.declared.rules.Checked.{Checked}
 use Rattle.image.specs.declared.rules.Checked.the-variants.{Accepted, Refused}
+use Rattle.image.specs.declared.areas.Source.{Source}
+use Rattle.image.specs.declared.areas.Source.the-variants.{Operator, BuiltIn, Neither}
 
--- the refusal of a number
-abbrev pub refusalOf : ℕ → Refusal
-refusalOf n =
-    cond (eqb n 1) Short
-    (cond (eqb n 2) Header
-    (cond (eqb n 3) Length
-    (cond (eqb n 4) Cell
-    (cond (eqb n 5) Record
-    (cond (eqb n 6) Code
-    (cond (eqb n 7) Child
-    (cond (eqb n 8) Nested
-    (cond (eqb n 9) Weight
-    (cond (eqb n 10) Scan
-    (cond (eqb n 11) Bounce
-    (cond (eqb n 12) Room
-    (cond (eqb n 13) State Request))))))))))))
-
-pub number-back : (r : Refusal) → refusalOf (numberOf r) ≡ r
-number-back Short = refl
-number-back Header = refl
-number-back Length = refl
-number-back Cell = refl
-number-back Record = refl
-number-back Code = refl
-number-back Child = refl
-number-back Nested = refl
-number-back Weight = refl
-number-back Scan = refl
-number-back Bounce = refl
-number-back Room = refl
-number-back State = refl
-number-back Request = refl
-
-pub number-some : (r : Refusal) → eqb (numberOf r) 0 ≡ false
-number-some Short = refl
-number-some Header = refl
-number-some Length = refl
-number-some Cell = refl
-number-some Record = refl
-number-some Code = refl
-number-some Child = refl
-number-some Nested = refl
-number-some Weight = refl
-number-some Scan = refl
-number-some Bounce = refl
-number-some Room = refl
-number-some State = refl
-number-some Request = refl
-
-abbrev shapeBack : List ℕ → Shape
-shapeBack v =
-    record {
-      layers = getD v 0 0;
-      rows = getD v 1 0;
-      columns = getD v 2 0;
-      records = getD v 3 0;
-      entries = getD v 4 0;
-      «records_at» = getD v 5 0;
-      «list_at» = getD v 6 0;
-    }
-
--- the answer of what is said
-abbrev back : Said → Checked
-back s = cond (eqb (s .number) 0) (Accepted (shapeBack (s .values))) (Refused (refusalOf (s .number)) (s .place))
+-- of the check
+abbrev back : Said Shape → Checked
+back s = answerBack Accepted Refused s
 
 said-back : (x : Checked) → back (saidOf x) ≡ x
 said-back (Accepted s) = refl
-said-back (Refused r p) = rw (number-some r, number-back r)
+said-back (Refused r p) = refused-back Accepted Refused r p noShape
 
 pub said-one : (x y : Checked) → saidOf x ≡ saidOf y → x ≡ y
 said-one x y e = sym (said-back x) ∙ ap back e ∙ said-back y
+
+-- of the table in use
+abbrev lent : Stretch → Source
+lent v = cond (v .operator) (Operator (v .size)) (BuiltIn (v .size))
+
+abbrev source-back : Said Stretch → Source
+source-back s = answerBack lent Neither s
+
+source-known : (x : Source) → source-back (sourceSaid x) ≡ x
+source-known (Operator n) = refl
+source-known (BuiltIn n) = refl
+source-known (Neither r p) = refused-back lent Neither r p noStretch
+
+pub source-one : (x y : Source) → sourceSaid x ≡ sourceSaid y → x ≡ y
+source-one x y e = sym (source-known x) ∙ ap source-back e ∙ source-known y
+
+-- of the lookups
+action-known : (x : Action) → (let w = actionWords x in actionOf (w .kind) (w .a) (w .b) (w .c)) ≡ x
+unfolding actionOf
+action-known code.NoOp = refl
+action-known code.Trans = refl
+action-known (code.KeyCode k) = refl
+action-known (code.MultipleKeyCodes e n) = refl
+action-known (code.MultipleActions e n) = refl
+action-known (code.Layer k) = refl
+action-known (code.DefaultLayer k) = refl
+action-known (code.HoldTap t h p) = refl
+
+pub action-one : (x y : Action) → actionWords x ≡ actionWords y → x ≡ y
+action-one x y e = sym (action-known x) ∙ ap (λ (w : RecordWords). actionOf (w .kind) (w .a) (w .b) (w .c)) e ∙ action-known y
+
+pub cell-one : (x y : Cell) → cellValue x ≡ cellValue y → x ≡ y
+cell-one (cell.Record n) (cell.Record m) e = ap (λ l. cell.Record (getD l 0 0)) e
+cell-one (cell.Record n) cell.Outside e = cc
+cell-one cell.Outside (cell.Record m) e = cc
+cell-one cell.Outside cell.Outside e = refl
+
+pub entry-one : (x y : Entry) → entryValue x ≡ entryValue y → x ≡ y
+entry-one (entry.Word n) (entry.Word m) e = ap (λ l. entry.Word (getD l 0 0)) e
+entry-one (entry.Word n) entry.Outside e = cc
+entry-one entry.Outside (entry.Word m) e = cc
+entry-one entry.Outside entry.Outside e = refl

@@ -16,8 +16,9 @@ use Rattle.lists.proofs.Laws.{every-head}
 use Rattle.image.specs.Words.{recordsOf, entries}
 use Rattle.image.specs.Record.{actionOf, recordOf, actionAt, childrenIn}
 use Rattle.image.specs.Tree.{NoOp, MultipleActions, named, meaning, trees, below, tree}
-use Rattle.image.specs.Sound.{Good, Formed, Meant}
-use Rattle.image.specs.declared.record.Action.{Action as Record}
+use Rattle.image.specs.Inside.{Formed}
+use Rattle.image.specs.Sound.{Good, Meant}
+use Rattle.image.specs.declared.record.Action.{Action as Coded}
 use Rattle.image.specs.declared.record.Action.the-variants as code
 use Rattle.image.proofs.Entries.{two-of}
 
@@ -42,7 +43,7 @@ named-lower img n (k ∷ ks) e =
     let both = every-head (λ k. ltb k n) k ks e in
     rw (below-lower img n k (ltb-true k n (both .0)), named-lower img n ks (both .1))
 
-means-lower : (img : List ℕ) (n : ℕ) (x : Record) → every (λ k. ltb k n) (childrenIn img x) ≡ true → meaning img (below img n) n x ≡ meaning img (tree img) n x
+means-lower : (img : List ℕ) (n : ℕ) (x : Coded) → every (λ k. ltb k n) (childrenIn img x) ≡ true → meaning img (below img n) n x ≡ meaning img (tree img) n x
 unfolding meaning childrenIn
 means-lower img n code.NoOp e = refl
 means-lower img n code.Trans e = refl
@@ -66,7 +67,7 @@ unfolding actionAt
 action-inside img n h = rw (lt-ltb n (recordsOf img) h)
 
 -- what is known of record n, where it is good, and its action was read and is x
-pub meant : (img : List ℕ) (n : ℕ) {r x : Record} → Good img n → r ≡ actionAt img n → r ≡ x → Meant img n x
+pub meant : (img : List ℕ) (n : ℕ) {r x : Coded} → Good img n → r ≡ actionAt img n → r ≡ x → Meant img n x
 meant img n {r} {x} g e f =
     let same : actionAt img n ≡ x = sym e ∙ f in
     subst (λ x. Meant img n x) same (record { is = tree-step img n (g .lower); listed = g .listed; codes = g .codes; lower = g .lower })
@@ -76,19 +77,19 @@ pub formed-lower : (img : List ℕ) (n k : ℕ) → Formed img n → k < n → F
 formed-lower img n k f h = record { inside = omega (arith, f .inside); form = f .before k h .form; before = λ j l. f .before j (omega arith) }
 
 -- what holds of the action of each kind holds of a record's action
-pub either : (P : Record → Type 0) (t : Bool) (x y : Record) → (t ≡ true → P x) → (t ≡ false → P y) → P (cond t x y)
+pub either : (P : Coded → Type 0) (t : Bool) (x y : Coded) → (t ≡ true → P x) → (t ≡ false → P y) → P (cond t x y)
 either P true x y p q = p refl
 either P false x y p q = q refl
 
-pub by-kind : (P : Record → Type 0) (k a b c : ℕ) → ((k ≡ 3 → ⊥) → P code.NoOp) → (k ≡ 1 → P code.Trans) → (k ≡ 2 → P (code.KeyCode a)) → (k ≡ 3 → P (code.MultipleKeyCodes a b)) → (k ≡ 4 → P (code.MultipleActions a b)) → (k ≡ 5 → P (code.Layer a)) → (k ≡ 6 → P (code.DefaultLayer a)) → (k ≡ 7 → P (code.HoldTap a b c)) → P (actionOf k a b c)
+pub by-kind : (P : Coded → Type 0) (k a b c : ℕ) → ((k ≡ 3 → ⊥) → P code.NoOp) → (k ≡ 1 → P code.Trans) → (k ≡ 2 → P (code.KeyCode a)) → (k ≡ 3 → P (code.MultipleKeyCodes a b)) → (k ≡ 4 → P (code.MultipleActions a b)) → (k ≡ 5 → P (code.Layer a)) → (k ≡ 6 → P (code.DefaultLayer a)) → (k ≡ 7 → P (code.HoldTap a b c)) → P (actionOf k a b c)
 unfolding actionOf
 by-kind P k a b c p0 p1 p2 p3 p4 p5 p6 p7 =
-    let r7 : Record = cond (eqb k 7) (code.HoldTap a b c) code.NoOp in
-    let r6 : Record = cond (eqb k 6) (code.DefaultLayer a) r7 in
-    let r5 : Record = cond (eqb k 5) (code.Layer a) r6 in
-    let r4 : Record = cond (eqb k 4) (code.MultipleActions a b) r5 in
-    let r3 : Record = cond (eqb k 3) (code.MultipleKeyCodes a b) r4 in
-    let r2 : Record = cond (eqb k 2) (code.KeyCode a) r3 in
+    let r7 : Coded = cond (eqb k 7) (code.HoldTap a b c) code.NoOp in
+    let r6 : Coded = cond (eqb k 6) (code.DefaultLayer a) r7 in
+    let r5 : Coded = cond (eqb k 5) (code.Layer a) r6 in
+    let r4 : Coded = cond (eqb k 4) (code.MultipleActions a b) r5 in
+    let r3 : Coded = cond (eqb k 3) (code.MultipleKeyCodes a b) r4 in
+    let r2 : Coded = cond (eqb k 2) (code.KeyCode a) r3 in
     either P (eqb k 1) code.Trans r2 (λ t. p1 (eqb-true k 1 t)) (λ _.
     either P (eqb k 2) (code.KeyCode a) r3 (λ t. p2 (eqb-true k 2 t)) (λ _.
     either P (eqb k 3) (code.MultipleKeyCodes a b) r4 (λ t. p3 (eqb-true k 3 t)) (λ not-3.

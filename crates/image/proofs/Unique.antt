@@ -4,7 +4,7 @@ use mathlib.Core.List.{List}
 use Prim.Native.Nat.{ℕ}
 use denote.Ref.{now}
 use Rattle.decides.specs.Decides.{Decides, DecidesAs, both}
-use Rattle.image.proofs.Said.{said-one}
+use Rattle.image.proofs.Said.{said-one, source-one}
 use Rattle.image.proofs.record.cell_at as C
 use Rattle.image.proofs.record.action_at as A
 use Rattle.image.proofs.record.entry_at as E
@@ -33,7 +33,7 @@ pub refusal-in-use : Decides R.ended (λ M. R.spec) (λ M. R.clauses)
 refusal-in-use M 𝓤 H A m r = record { same = refl; free = λ κs a g. refl; only = λ κs a g g′ x x′ ws ws′. both 𝓤 _ _ _ (λ p q. (p ∙ sym q, refl)) }
 
 pub source-of : Decides S.ended (λ M. S.spec) (λ M. S.clauses)
-source-of M 𝓤 H A m r = record { same = refl; free = λ κs a g. refl; only = λ κs a g g′ x x′ ws ws′. both 𝓤 _ _ _ (λ p q. (p ∙ sym q, refl)) }
+source-of M 𝓤 H A m r = record { same = refl; free = λ κs a g. refl; only = λ κs a g g′ x x′ ws ws′. both 𝓤 _ _ _ (λ p q. (source-one _ _ (p ∙ sym q), refl)) }
 
 -- the result is a reference: what it refers to is decided
 pub in-use : DecidesAs U.ended (λ κs. List ℕ) (λ κs r. now r) (λ M. U.spec) (λ M. U.clauses)

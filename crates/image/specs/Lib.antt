@@ -1,9 +1,9 @@
 pub mod Words
 pub mod Record
 pub mod Tree
-pub mod Legal
+pub mod Proper
 pub mod Table
 pub mod Check
 pub mod Sound
-pub mod Heft
+pub mod Inside
 pub mod Use

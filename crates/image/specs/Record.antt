@@ -78,3 +78,30 @@ cellAt img layer row column =
 -- an entry of the list
 unfoldable pub entryAt : List ℕ → ℕ → Entry
 entryAt img e = cond (ltb e (entriesOf img)) (entry.Word (entryOf img e)) entry.Outside
+
+-- what the lookups' answers hold, case by case. An action: the number of its kind, and its words a, b, c, zero where unused
+pub record RecordWords : Type 0 where
+  pub kind : ℕ
+  pub a : ℕ
+  pub b : ℕ
+  pub c : ℕ
+
+abbrev pub actionWords : Action → RecordWords
+actionWords NoOp = record { kind = 0; a = 0; b = 0; c = 0 }
+actionWords Trans = record { kind = 1; a = 0; b = 0; c = 0 }
+actionWords (KeyCode code) = record { kind = 2; a = code; b = 0; c = 0 }
+actionWords (MultipleKeyCodes first count) = record { kind = 3; a = first; b = count; c = 0 }
+actionWords (MultipleActions first count) = record { kind = 4; a = first; b = count; c = 0 }
+actionWords (Layer number) = record { kind = 5; a = number; b = 0; c = 0 }
+actionWords (DefaultLayer number) = record { kind = 6; a = number; b = 0; c = 0 }
+actionWords (HoldTap timeout hold tap) = record { kind = 7; a = timeout; b = hold; c = tap }
+
+-- a cell: the number of the record that it names, or none
+abbrev pub cellValue : Cell → List ℕ
+cellValue (cell.Record n) = n ∷ []
+cellValue cell.Outside = []
+
+-- an entry: its word, or none
+abbrev pub entryValue : Entry → List ℕ
+entryValue (entry.Word n) = n ∷ []
+entryValue entry.Outside = []

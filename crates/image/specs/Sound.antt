@@ -7,9 +7,9 @@ use Prim.Native.Nat.{ℕ, _+_, _*_, _<_, _≤_}
 use lib.ListN.{length}
 use lib.Dec.{ltb}
 use Rattle.codes.specs.Codes.{legal}
-use Rattle.image.specs.Words.{layersOf, rowsOf, columnsOf, recordsOf, entriesOf, recordsAt, listAt, cellsOf, sizeOf, cellOf, wordsFrom}
+use Rattle.image.specs.Words.{layersOf, rowsOf, columnsOf, recordsOf, entriesOf, recordsAt, listAt, cellsOf, sizeOf, cellOf}
 use Rattle.image.specs.Record.{actionAt, codesIn, childrenIn, listEnd}
-use Rattle.image.specs.Tree.{weight, tree, settled, meaning}
+use Rattle.image.specs.Tree.{weight, tree, opensLast, meaning}
 use Rattle.image.specs.declared.record.Action.{Action}
 use Rattle.lists.specs.Lists.{every}
 use Rattle.image.specs.Check.{formGood}
@@ -25,32 +25,14 @@ pub record Framed (img : List ℕ) : Type 0 where
   pub list-at : listAt img ≡ recordsAt img + 8 * recordsOf img
   pub whole : length img ≡ sizeOf img
 
--- the two offsets, read once and handed on
-pub record Placed (img : List ℕ) (records-at list-at : ℕ) : Type 0 where
-  pub framed : Framed img
-  pub first : records-at ≡ recordsAt img
-  pub second : list-at ≡ listAt img
-
 -- record n keeps its five rules
 pub record Good (img : List ℕ) (n : ℕ) : Type 0 where
   pub form : formGood img n ≡ true
   pub listed : listEnd (actionAt img n) ≤ entriesOf img
   pub codes : every legal (codesIn img (actionAt img n)) ≡ true
   pub lower : every (λ k. ltb k n) (childrenIn img (actionAt img n)) ≡ true
-  pub settles : settled (tree img n) ≡ true
+  pub settles : opensLast (tree img n) ≡ true
   pub light : weight (tree img n) ≤ 64
-
--- what is known of record n when the check has passed its form
-pub record Formed (img : List ℕ) (n : ℕ) : Type 0 where
-  pub inside : n < recordsOf img
-  pub form : formGood img n ≡ true
-  pub before : (k : ℕ) → k < n → Good img k
-
--- so many words in a row from a byte offset on, inside the image, number records below n
-pub record Rowed (img : List ℕ) (n at count : ℕ) : Type 0 where
-  pub inside : at + 2 * count ≤ length img
-  pub few : count ≤ 1024
-  pub lower : every (λ k. ltb k n) (wordsFrom img at count) ≡ true
 
 pub record Sound (img : List ℕ) : Type 0 where
   pub framed : Framed img

@@ -6,9 +6,9 @@ use mathlib.Core.List.{List}
 use Rattle.image.specs.Words.{layersOf, rowsOf, columnsOf, cellsOf, cellOf}
 use Rattle.image.specs.Record.{cellAt}
 use Rattle.image.specs.Tree.{Action, NoOp, tree, longest}
-use Rattle.image.specs.Legal.{Times}
+use Rattle.image.specs.Proper.{Times}
 use Rattle.image.specs.declared.record.Cell.{Cell}
-use Rattle.image.specs.declared.record.Cell.the-variants.{Record, Outside}
+use Rattle.image.specs.declared.record.Cell.the-variants as cell
 
 pub record Table : Type 0 where
   pub layers : ℕ
@@ -18,8 +18,8 @@ pub record Table : Type 0 where
 
 -- the tree of the record that a cell names
 unfoldable pub treeIn : List ℕ → Cell → Action
-treeIn img (Record n) = tree img n
-treeIn img Outside = NoOp
+treeIn img (cell.Record n) = tree img n
+treeIn img cell.Outside = NoOp
 
 abbrev pub tableOf : List ℕ → Table
 tableOf img =

@@ -7,7 +7,7 @@ use mathlib.Core.Bool.{Bool, true, false, not, _&&_, _||_}
 use lib.ListN.{length, getD}
 use Rattle.image.specs.Words.{entries}
 use Rattle.image.specs.Record.{actionAt}
-use Rattle.image.specs.declared.record.Action.{Action as Record}
+use Rattle.image.specs.declared.record.Action.{Action as Coded}
 use Rattle.image.specs.declared.record.Action.the-variants as code
 
 -- a HoldTap has its record's number, timeout, hold and tap
@@ -32,10 +32,10 @@ named lower [] = end
 named lower (k ∷ ks) = lower k & named lower ks
 
 -- what record n means, where `lower` gives the trees of the records that it names
-unfoldable pub meaning : List ℕ → (ℕ → Action) → ℕ → Record → Action
+unfoldable pub meaning : List ℕ → (ℕ → Action) → ℕ → Coded → Action
 meaning img lower n code.NoOp = NoOp
 meaning img lower n code.Trans = Trans
-meaning img lower n (code.KeyCode code) = KeyCode code
+meaning img lower n (code.KeyCode key) = KeyCode key
 meaning img lower n (code.MultipleKeyCodes first count) = MultipleKeyCodes (entries img first count)
 meaning img lower n (code.MultipleActions first count) = MultipleActions (named lower (entries img first count))
 meaning img lower n (code.Layer number) = Layer number
@@ -78,15 +78,15 @@ shutButLast (action & end) = true
 shutButLast (action & (next & actions)) = not (open? action) && shutButLast (next & actions)
 
 -- the open rule, at one action: hold and tap are not open, and only the last entry of a MultipleActions may be
-unfoldable pub settled : Action → Bool
-settled NoOp = true
-settled Trans = true
-settled (KeyCode code) = true
-settled (MultipleKeyCodes codes) = true
-settled (MultipleActions actions) = shutButLast actions
-settled (Layer number) = true
-settled (DefaultLayer number) = true
-settled (HoldTap n timeout hold tap) = not (open? hold) && not (open? tap)
+unfoldable pub opensLast : Action → Bool
+opensLast NoOp = true
+opensLast Trans = true
+opensLast (KeyCode code) = true
+opensLast (MultipleKeyCodes codes) = true
+opensLast (MultipleActions actions) = shutButLast actions
+opensLast (Layer number) = true
+opensLast (DefaultLayer number) = true
+opensLast (HoldTap n timeout hold tap) = not (open? hold) && not (open? tap)
 
 -- the weight: 1, plus the count of a kind 3, plus the weights of every record named, repeated ones each time
 unfoldable mutual

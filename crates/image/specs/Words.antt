@@ -71,8 +71,3 @@ entryOf img e = wordAt img (listAt img + 2 * e)
 unfoldable pub entries : List ℕ → ℕ → ℕ → List ℕ
 entries img e zero = []
 entries img e (suc n) = entryOf img e ∷ entries img (e + 1) n
-
--- so many words in a row, from a byte offset on
-unfoldable pub wordsFrom : List ℕ → ℕ → ℕ → List ℕ
-wordsFrom img at zero = []
-wordsFrom img at (suc n) = wordAt img at ∷ wordsFrom img (at + 2) n

@@ -1,18 +1,18 @@
 // The table in use: document 01, "The table in use". Two areas of flash are lent, the operator's and the built-in, each
 // of which may be longer than its image.
 // Assumes nothing.
+use super::header::head_fault;
 use super::rules::Checked;
-use super::rules::Fault;
-use super::rules::Told;
 use super::rules::answer_of;
 use super::rules::check;
-use super::rules::head_fault;
 use super::words::shape_of;
 use super::words::word_or_zero;
 use refusal::Refusal;
+use refusal::Told;
+use refusal::Verdict;
 ghost use mathlib.Core.Path.{_≡_};
 ghost use Rattle.image.specs.Words.{sizeOf};
-ghost use Rattle.image.specs.Use.{areaOf, sourceOf, stretchOf, refusalIn};
+ghost use Rattle.image.specs.Use.{areaOf, sourceOf, sourceSaid, inUse, refusalIn};
 
 // Which area holds the table in use, with the length of its image; or the operator's refusal.
 pub enum Source {
@@ -38,7 +38,7 @@ fn check_area(area: &[u8]) -> Checked
     let s = shape_of(area);
     let size = s.list_at + 2 * s.entries;
     let f = head_fault(area, s, size <= area.len());
-    let Fault::Fine = f else {
+    let Verdict::Fine = f else {
         return answer_of(f, s);
     };
     check(&area[..size])
@@ -46,7 +46,7 @@ fn check_area(area: &[u8]) -> Checked
 
 // Where the table in use lies, or the refusal that document 01 asks for.
 pub fn source_of(operator: &[u8], built_in: &[u8]) -> Source
-    ensures { λ r. ⌜ r ≡ sourceOf (now (operator .entry)) (now («built_in» .entry)) ⌝ }
+    ensures { λ r. ⌜ sourceSaid r ≡ sourceSaid (sourceOf (now (operator .entry)) (now («built_in» .entry))) ⌝ }
 {
     match check_area(operator) {
         Checked::Accepted(_) => Source::Operator(size_of(operator)),
@@ -61,7 +61,7 @@ pub fn source_of(operator: &[u8], built_in: &[u8]) -> Source
 
 // The table in use: the part of the area that holds it, or an empty part.
 pub fn in_use<'a>(operator: &'a [u8], built_in: &'a [u8]) -> &'a [u8]
-    ensures { λ r. ⌜ now r ≡ stretchOf (sourceOf (now (operator .entry)) (now («built_in» .entry))) (now (operator .entry)) (now («built_in» .entry)) ⌝ }
+    ensures { λ r. ⌜ now r ≡ inUse (now (operator .entry)) (now («built_in» .entry)) ⌝ }
 {
     match source_of(operator, built_in) {
         Source::Operator(n) => &operator[..n],

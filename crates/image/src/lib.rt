@@ -1,8 +1,13 @@
 // keyberon's action.rs: the eight actions, now records of a table image, with the image's check, its lookups and the
 // table in use. Document 01, "The table image".
+// A `usize` of 32 bits holds every sum and product here: a word has 16 bits, an image whose header keeps its rules is at most
+// 6,160 bytes long, and the places that a lookup computes, which knows nothing of its image, are u64.
 // Assumes nothing.
 pub mod areas;
+mod children;
+mod header;
 pub mod record;
+mod records;
 pub mod rules;
 pub mod words;
 
@@ -17,6 +22,5 @@ pub use record::action_at;
 pub use record::cell_at;
 pub use record::entry_at;
 pub use rules::Checked;
-pub use rules::Told;
 pub use rules::check;
 pub use words::Shape;

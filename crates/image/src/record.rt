@@ -45,16 +45,17 @@ pub(crate) fn action_of(kind: u16, a: u16, b: u16, c: u16) -> Action
     }
 }
 
-// The record that a cell names. Nothing is asked of the image or of the place.
+// The record that a cell names. Nothing is asked of the image or of the place, so the place of the cell in the image can
+// pass 32 bits.
 pub fn cell_at(image: &[u8], layer: usize, row: usize, column: usize) -> Cell
     ensures { λ r. ⌜ r ≡ cellAt (now (image .entry)) layer row column ⌝ }
 {
-    let rows = word_or_zero(image, 4) as usize;
-    let columns = word_or_zero(image, 6) as usize;
-    if layer < (word_or_zero(image, 2) as usize) {
-        if row < rows {
-            if column < columns {
-                let place = (layer * rows + row) * columns + column;
+    let rows = word_or_zero(image, 4) as u64;
+    let columns = word_or_zero(image, 6) as u64;
+    if (layer as u64) < (word_or_zero(image, 2) as u64) {
+        if (row as u64) < rows {
+            if (column as u64) < columns {
+                let place = ((layer as u64) * rows + (row as u64)) * columns + (column as u64);
                 return Cell::Record(word_or_zero(image, 16 + 2 * place));
             }
         }
@@ -69,7 +70,7 @@ pub fn action_at(image: &[u8], n: usize) -> Action
     if (word_or_zero(image, 8) as usize) <= n {
         return Action::NoOp;
     }
-    let at = (word_or_zero(image, 12) as usize) + 8 * n;
+    let at = (word_or_zero(image, 12) as u64) + 8 * (n as u64);
     let kind = word_or_zero(image, at);
     let a = word_or_zero(image, at + 2);
     let b = word_or_zero(image, at + 4);
@@ -84,5 +85,6 @@ pub fn entry_at(image: &[u8], e: usize) -> Entry
     if (word_or_zero(image, 10) as usize) <= e {
         return Entry::Outside;
     }
-    Entry::Word(word_or_zero(image, (word_or_zero(image, 14) as usize) + 2 * e))
+    let at = (word_or_zero(image, 14) as u64) + 2 * (e as u64);
+    Entry::Word(word_or_zero(image, at))
 }

@@ -1,39 +1,26 @@
-// The check of a table image: document 01, "Refusal numbers" 1 to 9. The header's words are read once and handed on as
-// numbers. A record's words are read once for its rules, and its kind says which of them it can break.
+// The check of a table image: document 01, "Refusal numbers" 1 to 9. Short; the header (header.rt); the cells; the records
+// (records.rt).
 // Assumes nothing.
+use super::header::head_fault;
+use super::records::records_fault;
 use super::words::Shape;
-use super::words::entry;
-use super::words::field;
 use super::words::shape_of;
 use super::words::word;
-use codes::KeyCode;
 use refusal::Refusal;
+use refusal::Told;
+use refusal::Verdict;
 ghost use mathlib.Core.Path.{_≡_};
-ghost use Prim.Native.Nat.{ℕ, _+_, _*_, _<_, _≤_};
-ghost use mathlib.Core.Bool.{true, _&&_};
+ghost use Prim.Native.Nat.{_<_, _≤_};
 ghost use lib.ListN.{length};
-ghost use lib.Dec.{leb};
-ghost use Rattle.codes.specs.Codes.{legal};
-ghost use Rattle.image.specs.Words.{shapeOf, cellsOf, recordsOf, entriesOf, listAt, fieldOf, entries, wordsFrom};
-ghost use Rattle.image.specs.Record.{actionAt};
-ghost use Rattle.image.specs.Heft.{rowHeft, heftOf, Weighed};
-ghost use Rattle.lists.specs.Lists.{every};
-ghost use Rattle.image.specs.Check.{rule, within, countsGood, offsetsGood, headerGood, headFault, cellFault, form, recordFault, firstFault, bodyFault, faultOf, answer, checkOf, toldOf, saidOf};
-ghost use Rattle.image.specs.Sound.{Framed, Placed, Good, Formed, Rowed};
-ghost use Rattle.refusal.specs.declared.Refusal.the-variants.{Code, Weight};
-ghost use Rattle.image.specs.declared.record.Action.the-variants.{MultipleKeyCodes, MultipleActions};
-ghost use Rattle.image.specs.declared.rules.Fault.the-variants.{Fine};
+ghost use Rattle.refusal.specs.Verdict.{firstFault};
+ghost use Rattle.image.specs.Words.{shapeOf, cellsOf, recordsOf};
+ghost use Rattle.image.specs.Check.{cellFault, bodyFault, faultOf, answer, checkOf, toldOf, saidOf};
+ghost use Rattle.image.specs.Sound.{Framed};
 
 // The header's numbers of an accepted image, or the first fault and its place.
 pub enum Checked {
     Accepted(Shape),
     Refused(Refusal, usize),
-}
-
-// The number and place of an answer, as document 01 counts refusals: 0 and 0 where nothing is refused.
-pub struct Told {
-    pub number: u8,
-    pub place: usize,
 }
 
 impl Checked {
@@ -54,389 +41,53 @@ impl Checked {
     }
 }
 
-// What a record comes to by itself, and the words in a row that number the records it names: so many, from a byte offset.
-pub(crate) struct Row {
-    pub own: usize,
-    pub at: usize,
-    pub count: usize,
-}
-
-// A record that is named comes to its weight, and to this mark more if it is open. 1,024 of them weigh less than the mark.
-const OPEN: usize = 1048576;
-
-// Where one of the records named is not lower, all come to this mark. No sum of lower ones comes to it.
-const HIGH: usize = 1099511627776;
-
-// No fault, or the first one and its place.
-pub(crate) enum Fault {
-    Fine,
-    At(Refusal, usize),
-}
-
-fn is_within(lo: usize, hi: usize, x: usize) -> bool
-    ensures { λ r. ⌜ r ≡ within lo hi x ⌝ }
-{
-    lo <= x && x <= hi
-}
-
-fn both(a: bool, b: bool) -> bool
-    ensures { λ r. ⌜ r ≡ (a && b) ⌝ }
-{
-    if a { b } else { false }
-}
-
-// The version and the five counts keep their rules.
-fn counts_good(version: usize, s: Shape) -> bool
-    ensures { λ r. ⌜ r ≡ countsGood version s ⌝ }
-{
-    let layers = is_within(1, 8, s.layers);
-    let rows = is_within(1, 8, s.rows);
-    let columns = is_within(1, 16, s.columns);
-    let records = is_within(1, 256, s.records);
-    let entries = is_within(0, 1024, s.entries);
-    both(
-        version == 1,
-        both(layers, both(rows, both(columns, both(records, entries)))),
-    )
-}
-
-// The two offsets keep their rules, where the counts do.
-fn offsets_good(version: usize, s: Shape) -> bool
-    requires { ⌜ countsGood version s ≡ true ⌝ }
-    ensures { λ r. ⌜ r ≡ offsetsGood s ⌝ }
-{
-    let records_at = 16 + 2 * (s.layers * s.rows * s.columns);
-    if s.records_at != records_at {
-        return false;
-    }
-    s.list_at == records_at + 8 * s.records
-}
-
-fn header_good(version: usize, s: Shape) -> bool
-    ensures { λ r. ⌜ r ≡ headerGood version s ⌝ }
-{
-    if !counts_good(version, s) {
-        return false;
-    }
-    offsets_good(version, s)
-}
-
-// Header, then Length.
-pub(crate) fn head_fault(image: &[u8], s: Shape, long: bool) -> Fault
-    requires { ⌜ (16 ≤ length (now image)) × (s ≡ shapeOf (now image)) ⌝ }
-    ensures { λ r. ⌜ r ≡ headFault (now (image .entry)) long ⌝ }
-{
-    if !header_good(word(image, 0) as usize, s) {
-        return Fault::At(Refusal::Header, 0);
-    }
-    if !long {
-        return Fault::At(Refusal::Length, 0);
-    }
-    Fault::Fine
-}
-
 // The first cell that names no record.
-fn cells_fault(image: &[u8], count: usize, records: usize) -> Fault
+fn cells_fault(image: &[u8], count: usize, records: usize) -> Verdict
     requires { ⌜ Framed (now image) × (count ≡ cellsOf (now image)) × (records ≡ recordsOf (now image)) ⌝ }
     ensures { λ r. ⌜ r ≡ firstFault (cellFault (now (image .entry))) 0 count ⌝ }
 {
     let mut i = 0;
     while i < count {
         if records <= (word(image, 16 + 2 * i) as usize) {
-            return Fault::At(Refusal::Cell, i);
+            return Verdict::Refused(Refusal::Cell, i);
         }
         i += 1;
     }
-    Fault::Fine
-}
-
-// The form of a record's words, where the list has so many entries.
-fn form_good(listed: usize, kind: u16, a: u16, b: u16, c: u16) -> bool
-    ensures { λ r. ⌜ r ≡ form listed kind a b c ⌝ }
-{
-    let a = a as usize;
-    let b = b as usize;
-    let c = c as usize;
-    if kind <= 1 {
-        return a + b + c == 0;
-    }
-    if kind == 2 {
-        return b + c == 0;
-    }
-    if kind <= 4 {
-        return both(a + b <= listed, c == 0);
-    }
-    if kind <= 6 {
-        return b + c == 0;
-    }
-    kind == 7
-}
-
-// Every one of so many entries from `first` on is a legal code.
-fn codes_legal(image: &[u8], list_at: usize, first: usize, count: usize) -> bool
-    requires { ⌜ (first + count ≤ entriesOf (now image)) × Framed (now image) × («list_at» ≡ listAt (now image)) ⌝ }
-    ensures { λ r. ⌜ r ≡ every legal (entries (now (image .entry)) first count) ⌝ }
-{
-    let mut at = first;
-    let mut left = count;
-    while 0 < left {
-        if !KeyCode::is_legal(entry(image, list_at, at)) {
-            return false;
-        }
-        at += 1;
-        left -= 1;
-    }
-    true
-}
-
-// The row of record n, which is good, each word that it takes read once. A MultipleActions has its entries, and a HoldTap
-// its own last two words, hold and tap. The word b of any other is 0 but in a MultipleKeyCodes, where it is the count.
-fn row_of(image: &[u8], records_at: usize, list_at: usize, n: usize) -> Row
-    requires { ⌜ Placed (now image) «records_at» «list_at» × Formed (now image) n × Good (now image) n ⌝ }
-    ensures { λ r. ⌜ Weighed (now (image .entry)) n (r .own) (r .at) (r .count) ⌝ }
-{
-    let kind = field(image, records_at, n, 0);
-    let b = field(image, records_at, n, 4) as usize;
-    if kind == 4 {
-        let first = field(image, records_at, n, 2) as usize;
-        return Row {
-            own: 1,
-            at: list_at + 2 * first,
-            count: b,
-        };
-    }
-    if kind < 7 {
-        return Row {
-            own: 1 + b,
-            at: 0,
-            count: 0,
-        };
-    }
-    Row {
-        own: 1 + OPEN,
-        at: records_at + 8 * n + 4,
-        count: 2,
-    }
-}
-
-// What the records of a row come to, all below n and good: recursion over them. A record that names none is no call, nor
-// is the last of the row, whose own row takes the place of this one.
-fn weigh_row(
-    image: &[u8],
-    records_at: usize,
-    list_at: usize,
-    n: usize,
-    at: usize,
-    count: usize,
-) -> usize
-    requires { ⌜ Placed (now image) «records_at» «list_at» × Formed (now image) n × Rowed (now image) n at count ⌝ }
-    ensures { λ r. ⌜ r ≡ rowHeft (now (image .entry)) at count ⌝ }
-{
-    let mut sum = 0;
-    let mut from = at;
-    let mut left = count;
-    while 0 < left {
-        let k = word(image, from) as usize;
-        let row = row_of(image, records_at, list_at, k);
-        sum += row.own;
-        from += 2;
-        left -= 1;
-        if row.count == 0 {
-            continue;
-        }
-        if left == 0 {
-            from = row.at;
-            left = row.count;
-            continue;
-        }
-        sum += weigh_row(image, records_at, list_at, k, row.at, row.count);
-    }
-    sum
-}
-
-// What the words of a row come to as records that record n names: the one pass over them.
-fn row_sum(
-    image: &[u8],
-    records_at: usize,
-    list_at: usize,
-    n: usize,
-    at: usize,
-    count: usize,
-) -> usize
-    requires { ⌜ Placed (now image) «records_at» «list_at» × Formed (now image) n × (at + 2 * count ≤ length (now image)) × (count ≤ 1024) ⌝ }
-    ensures { λ r. ⌜ r ≡ heftOf (now (image .entry)) n (wordsFrom (now (image .entry)) at count) ⌝ }
-{
-    let mut sum = 0;
-    let mut from = at;
-    let mut left = count;
-    while 0 < left {
-        let k = word(image, from) as usize;
-        if n <= k {
-            return HIGH;
-        }
-        let row = row_of(image, records_at, list_at, k);
-        sum += row.own;
-        from += 2;
-        left -= 1;
-        if row.count == 0 {
-            continue;
-        }
-        sum += weigh_row(image, records_at, list_at, k, row.at, row.count);
-    }
-    sum
-}
-
-// Weight, the last rule of a record.
-fn weight_fault(n: usize, weight: usize) -> Fault
-    ensures { λ r. ⌜ r ≡ rule (leb weight 64) Weight n Fine ⌝ }
-{
-    if 64 < weight {
-        return Fault::At(Refusal::Weight, n);
-    }
-    Fault::Fine
-}
-
-// A KeyCode: Code.
-fn code_fault(n: usize, code: u16) -> Fault
-    ensures { λ r. ⌜ r ≡ rule (legal code) Code n Fine ⌝ }
-{
-    if !KeyCode::is_legal(code) {
-        return Fault::At(Refusal::Code, n);
-    }
-    Fault::Fine
-}
-
-// A MultipleKeyCodes: Code, Weight.
-fn codes_fault(image: &[u8], list_at: usize, n: usize, first: usize, count: usize) -> Fault
-    requires { ⌜ Framed (now image) × («list_at» ≡ listAt (now image)) × Formed (now image) n × (actionAt (now image) n ≡ MultipleKeyCodes first count) ⌝ }
-    ensures { λ r. ⌜ r ≡ recordFault (now (image .entry)) n ⌝ }
-{
-    if !codes_legal(image, list_at, first, count) {
-        return Fault::At(Refusal::Code, n);
-    }
-    weight_fault(n, 1 + count)
-}
-
-// A MultipleActions: Child, Nested, Weight.
-fn actions_fault(
-    image: &[u8],
-    records_at: usize,
-    list_at: usize,
-    n: usize,
-    first: usize,
-    count: usize,
-) -> Fault
-    requires { ⌜ Placed (now image) «records_at» «list_at» × Formed (now image) n × (actionAt (now image) n ≡ MultipleActions first count) ⌝ }
-    ensures { λ r. ⌜ r ≡ recordFault (now (image .entry)) n ⌝ }
-{
-    if count == 0 {
-        return Fault::Fine;
-    }
-    let at = list_at + 2 * first;
-    let most = row_sum(image, records_at, list_at, n, at, count - 1);
-    let last = row_sum(image, records_at, list_at, n, at + 2 * (count - 1), 1);
-    if HIGH <= most + last {
-        return Fault::At(Refusal::Child, n);
-    }
-    if OPEN <= most {
-        return Fault::At(Refusal::Nested, n);
-    }
-    if OPEN <= last {
-        return weight_fault(n, 1 + (most + (last - OPEN)));
-    }
-    weight_fault(n, 1 + (most + last))
-}
-
-// A HoldTap: Child, Nested, Weight.
-fn hold_tap_fault(image: &[u8], records_at: usize, list_at: usize, n: usize) -> Fault
-    requires { ⌜ Placed (now image) «records_at» «list_at» × Formed (now image) n × (fieldOf (now image) n 0 ≡ 7) ⌝ }
-    ensures { λ r. ⌜ r ≡ recordFault (now (image .entry)) n ⌝ }
-{
-    let sum = row_sum(image, records_at, list_at, n, records_at + 8 * n + 4, 2);
-    if HIGH <= sum {
-        return Fault::At(Refusal::Child, n);
-    }
-    if OPEN <= sum {
-        return Fault::At(Refusal::Nested, n);
-    }
-    weight_fault(n, 1 + sum)
-}
-
-// The first fault of record n, where every lower record is good: its form, then the rules that its kind can break.
-fn record_fault(image: &[u8], records_at: usize, list_at: usize, listed: usize, n: usize) -> Fault
-    requires { ⌜ Placed (now image) «records_at» «list_at» × (listed ≡ entriesOf (now image)) × (n < recordsOf (now image)) × ((k : ℕ) → k < n → Good (now image) k) ⌝ }
-    ensures { λ r. ⌜ r ≡ recordFault (now (image .entry)) n ⌝ }
-{
-    let kind = field(image, records_at, n, 0);
-    let a = field(image, records_at, n, 2);
-    let b = field(image, records_at, n, 4);
-    let c = field(image, records_at, n, 6);
-    if !form_good(listed, kind, a, b, c) {
-        return Fault::At(Refusal::Record, n);
-    }
-    match kind {
-        2 => code_fault(n, a),
-        3 => codes_fault(image, list_at, n, a as usize, b as usize),
-        4 => actions_fault(image, records_at, list_at, n, a as usize, b as usize),
-        7 => hold_tap_fault(image, records_at, list_at, n),
-        _ => Fault::Fine,
-    }
-}
-
-// The first fault of the records.
-fn records_fault(
-    image: &[u8],
-    records_at: usize,
-    list_at: usize,
-    listed: usize,
-    records: usize,
-) -> Fault
-    requires { ⌜ Placed (now image) «records_at» «list_at» × (listed ≡ entriesOf (now image)) × (records ≡ recordsOf (now image)) ⌝ }
-    ensures { λ r. ⌜ r ≡ firstFault (recordFault (now (image .entry))) 0 records ⌝ }
-{
-    let mut n = 0;
-    while n < records {
-        let f = record_fault(image, records_at, list_at, listed, n);
-        let Fault::Fine = f else {
-            return f;
-        };
-        n += 1;
-    }
-    Fault::Fine
+    Verdict::Fine
 }
 
 // Cells, then records.
-fn body_fault(image: &[u8], s: Shape) -> Fault
+fn body_fault(image: &[u8], s: Shape) -> Verdict
     requires { ⌜ Framed (now image) × (s ≡ shapeOf (now image)) ⌝ }
     ensures { λ r. ⌜ r ≡ bodyFault (now (image .entry)) ⌝ }
 {
     let f = cells_fault(image, s.layers * s.rows * s.columns, s.records);
-    let Fault::Fine = f else {
+    let Verdict::Fine = f else {
         return f;
     };
     records_fault(image, s.records_at, s.list_at, s.entries, s.records)
 }
 
 // Past Short: Header, Length, cells, records.
-fn image_fault(image: &[u8], s: Shape) -> Fault
+fn image_fault(image: &[u8], s: Shape) -> Verdict
     requires { ⌜ (16 ≤ length (now image)) × (s ≡ shapeOf (now image)) × (s .entries < 65536) × (s .«list_at» < 65536) ⌝ }
     ensures { λ r. ⌜ r ≡ faultOf (now (image .entry)) ⌝ }
 {
     let size = s.list_at + 2 * s.entries;
     let f = head_fault(image, s, image.len() == size);
-    let Fault::Fine = f else {
+    let Verdict::Fine = f else {
         return f;
     };
     body_fault(image, s)
 }
 
 // The answer to a fault: the refusal, and where there is none, the header's numbers.
-pub(crate) fn answer_of(fault: Fault, s: Shape) -> Checked
+pub(crate) fn answer_of(fault: Verdict, s: Shape) -> Checked
     ensures { λ r. ⌜ r ≡ answer fault s ⌝ }
 {
     match fault {
-        Fault::Fine => Checked::Accepted(s),
-        Fault::At(refusal, place) => Checked::Refused(refusal, place),
+        Verdict::Fine => Checked::Accepted(s),
+        Verdict::Refused(refusal, place) => Checked::Refused(refusal, place),
     }
 }
 
@@ -449,7 +100,7 @@ pub fn check(image: &[u8]) -> Checked
     }
     let s = shape_of(image);
     let f = image_fault(image, s);
-    let Fault::Fine = f else {
+    let Verdict::Fine = f else {
         return answer_of(f, s);
     };
     Checked::Accepted(s)

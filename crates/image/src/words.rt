@@ -25,19 +25,21 @@ pub(crate) fn word(image: &[u8], at: usize) -> u16
     (image[at] as u16) + 256 * (image[at + 1] as u16)
 }
 
-// The byte at a place, and 0 past the end.
-fn byte_or_zero(image: &[u8], at: usize) -> u16
+// The byte at a place, and 0 past the end. Places are of 64 bits here: an image that was not accepted names some that no
+// `usize` of 32 bits holds.
+fn byte_or_zero(image: &[u8], at: u64) -> u16
     ensures { λ r. ⌜ (r ≡ getD (now (image .entry)) at 0) × (r < 256) ⌝ }
 {
-    if at < image.len() {
-        image[at] as u16
+    if at < (image.len() as u64) {
+        let i = at as usize;
+        image[i] as u16
     } else {
         0
     }
 }
 
 // The word at any place, for the lookups, which know nothing of their image.
-pub(crate) fn word_or_zero(image: &[u8], at: usize) -> u16
+pub(crate) fn word_or_zero(image: &[u8], at: u64) -> u16
     requires { ⌜ at < 2 ^ 62 ⌝ }
     ensures { λ r. ⌜ r ≡ wordAt (now (image .entry)) at ⌝ }
 {

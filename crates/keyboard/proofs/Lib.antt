@@ -1,5 +1,6 @@
 pub mod Hid111
-pub mod Idle
+pub mod Due
+pub mod Changes
 pub mod Steps
 pub mod Walk
 pub mod Lends

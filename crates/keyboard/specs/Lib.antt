@@ -1,2 +1,5 @@
 pub mod Keyboard
+pub mod Idle
+pub mod Descriptor
+pub mod Lent
 pub mod Hid111

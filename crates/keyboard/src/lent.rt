@@ -4,12 +4,13 @@
 use super::Got;
 use super::Keyboard;
 use codes::KbHidReport;
-ghost use mathlib.Core.Path.{_≡_};
-ghost use Rattle.keyboard.specs.Keyboard.{reported, fetched, answered, idled, clocked};
+ghost use Rattle.keyboard.specs.Keyboard.{reported, fetched, lit};
+ghost use Rattle.keyboard.specs.Idle.{idled, clocked};
+ghost use Rattle.keyboard.specs.Lent.{LentChanged, LentFetched, LentAnswered, LentClocked};
 
 #[no_mangle]
 pub extern "C" fn keyboard_set_keyboard_report(kb: &mut Keyboard, report: KbHidReport) -> bool
-    ensures { λ r. ⌜ (r ≡ reported (now (kb .entry)) report .changed) × (now (kb .exit) ≡ reported (now (kb .entry)) report .keyboard) ⌝ }
+    ensures { λ r. ⌜ LentChanged (reported (now (kb .entry)) report) r (now (kb .exit)) ⌝ }
 {
     let done = (*kb).set_keyboard_report(report);
     *kb = done.keyboard;
@@ -18,7 +19,7 @@ pub extern "C" fn keyboard_set_keyboard_report(kb: &mut Keyboard, report: KbHidR
 
 #[no_mangle]
 pub extern "C" fn keyboard_get_report(kb: &mut Keyboard, kind: u8, id: u8) -> Got
-    ensures { λ r. ⌜ (r ≡ fetched (now (kb .entry)) kind id .got) × (now (kb .exit) ≡ fetched (now (kb .entry)) kind id .keyboard) ⌝ }
+    ensures { λ r. ⌜ LentFetched (fetched (now (kb .entry)) kind id) r (now (kb .exit)) ⌝ }
 {
     let done = (*kb).get_report(kind, id);
     *kb = done.keyboard;
@@ -27,7 +28,7 @@ pub extern "C" fn keyboard_get_report(kb: &mut Keyboard, kind: u8, id: u8) -> Go
 
 #[no_mangle]
 pub extern "C" fn keyboard_set_report(kb: &mut Keyboard, kind: u8, id: u8, bytes: &[u8]) -> u8
-    ensures { λ r. ⌜ (r ≡ answered (now (kb .entry)) kind id (now (bytes .entry)) .number) × (now (kb .exit) ≡ answered (now (kb .entry)) kind id (now (bytes .entry)) .keyboard) ⌝ }
+    ensures { λ r. ⌜ LentAnswered (lit (now (kb .entry)) kind id (now (bytes .entry))) r (now (kb .exit)) ⌝ }
 {
     let done = (*kb).set_report(kind, id, bytes);
     *kb = done.keyboard;
@@ -36,7 +37,7 @@ pub extern "C" fn keyboard_set_report(kb: &mut Keyboard, kind: u8, id: u8, bytes
 
 #[no_mangle]
 pub extern "C" fn keyboard_set_idle(kb: &mut Keyboard, rate: u8) -> u8
-    ensures { λ r. ⌜ (r ≡ idled (now (kb .entry)) rate .number) × (now (kb .exit) ≡ idled (now (kb .entry)) rate .keyboard) ⌝ }
+    ensures { λ r. ⌜ LentAnswered (idled (now (kb .entry)) rate) r (now (kb .exit)) ⌝ }
 {
     let done = (*kb).set_idle(rate);
     *kb = done.keyboard;
@@ -45,7 +46,7 @@ pub extern "C" fn keyboard_set_idle(kb: &mut Keyboard, rate: u8) -> u8
 
 #[no_mangle]
 pub extern "C" fn keyboard_clock(kb: &mut Keyboard) -> bool
-    ensures { λ r. ⌜ (r ≡ clocked (now (kb .entry)) .due) × (now (kb .exit) ≡ clocked (now (kb .entry)) .keyboard) ⌝ }
+    ensures { λ r. ⌜ LentClocked (clocked (now (kb .entry))) r (now (kb .exit)) ⌝ }
 {
     let done = (*kb).clock();
     *kb = done.keyboard;

@@ -1,17 +1,16 @@
-// keyberon's keyboard.rs: the last report, the lights, the requests that the USB stack hands on, the idle clock and the
-// report descriptor. By value; lent.rt has the same calls over a record that is lent, and through.rt calls those with a record
-// that is at hand. Document 01, "Report and keyboard".
+// keyberon's keyboard.rs: the last report, the lights, and the requests that the USB stack hands on; idle.rt has the idle clock
+// and descriptor.rt what the device says of itself. By value; lent.rt has the same calls over a record that is lent, and
+// through.rt calls those with a record that is at hand. Document 01, "Report and keyboard".
 // Assumes nothing.
+mod descriptor;
+mod idle;
 pub mod lent;
 pub mod through;
 
 use codes::KbHidReport;
 ghost use mathlib.Core.Path.{_≡_};
-ghost use mathlib.Core.Bool.{not, _&&_};
-ghost use Prim.Native.Nat.{_+_, _*_, _≤_, min};
-ghost use lib.Dec.{eqb, leb};
 ghost use Rattle.lists.specs.Lists.{alike};
-ghost use Rattle.keyboard.specs.Keyboard.{fresh, reported, fetched, answered, idled, clocked, descriptor, subclassNumber, protocolNumber};
+ghost use Rattle.keyboard.specs.Keyboard.{fresh, reported, fetched, lit};
 
 // Every value of it is legal.
 #[repr(C)]
@@ -59,80 +58,6 @@ pub struct Clocked {
     pub keyboard: Keyboard,
 }
 
-const REPORT_DESCRIPTOR: [u8; 71] = [
-    0x05,
-    0x01,
-    0x09,
-    0x06,
-    0xA1,
-    0x01,
-    0x05,
-    0x07,
-    0x19,
-    0xE0,
-    0x29,
-    0xE7,
-    0x15,
-    0x00,
-    0x25,
-    0x01,
-    0x75,
-    0x01,
-    0x95,
-    0x08,
-    0x81,
-    0x02,
-    0x95,
-    0x01,
-    0x75,
-    0x08,
-    0x81,
-    0x03,
-    0x95,
-    0x05,
-    0x75,
-    0x01,
-    0x05,
-    0x08,
-    0x19,
-    0x01,
-    0x29,
-    0x05,
-    0x91,
-    0x02,
-    0x95,
-    0x01,
-    0x75,
-    0x03,
-    0x91,
-    0x03,
-    0x95,
-    0x06,
-    0x75,
-    0x08,
-    0x15,
-    0x00,
-    0x25,
-    0xFB,
-    0x05,
-    0x07,
-    0x19,
-    0x00,
-    0x29,
-    0xFB,
-    0x81,
-    0x00,
-    0x09,
-    0x03,
-    0x75,
-    0x08,
-    0x95,
-    0x40,
-    0xB1,
-    0x02,
-    0xC0,
-];
-
 fn are_alike(a: [u8; 8], b: [u8; 8]) -> bool
     ensures { λ r. ⌜ r ≡ alike a b ⌝ }
 {
@@ -144,19 +69,6 @@ fn are_alike(a: [u8; 8], b: [u8; 8]) -> bool
         i += 1;
     }
     true
-}
-
-// The count of a clock call, which stops at the longest period.
-fn counted(count: u16) -> u16
-    ensures { λ r. ⌜ (r ≡ min (count + 1) 1020) × (r ≤ 1020) ⌝ }
-{
-    if count < 1020 { count + 1 } else { 1020 }
-}
-
-fn is_due(idle: u8, count: u16) -> bool
-    ensures { λ r. ⌜ r ≡ (not (eqb idle 0) && leb (4 * idle) count) ⌝ }
-{
-    idle != 0 && 4 * (idle as u16) <= count
 }
 
 impl Keyboard {
@@ -219,7 +131,7 @@ impl Keyboard {
 
     // Set_Report: Output, id 0 and one byte set the lights.
     pub fn set_report(self, kind: u8, id: u8, bytes: &[u8]) -> Answered
-        ensures { λ r. ⌜ r ≡ answered self kind id (now (bytes .entry)) ⌝ }
+        ensures { λ r. ⌜ r ≡ lit self kind id (now (bytes .entry)) ⌝ }
     {
         if kind != 2 {
             return Answered {
@@ -250,57 +162,5 @@ impl Keyboard {
             number: 0,
             keyboard: k,
         }
-    }
-
-    // Set_Idle: the rate, in units of 4 ms; 0 repeats nothing.
-    pub fn set_idle(self, rate: u8) -> Answered
-        ensures { λ r. ⌜ r ≡ idled self rate ⌝ }
-    {
-        let mut k = self;
-        k.idle = rate;
-        k.count = 0;
-        Answered {
-            number: 0,
-            keyboard: k,
-        }
-    }
-
-    // One millisecond: whether the report is due again.
-    pub fn clock(self) -> Clocked
-        ensures { λ r. ⌜ r ≡ clocked self ⌝ }
-    {
-        let count = counted(self.count);
-        let mut k = self;
-        if is_due(self.idle, count) {
-            k.count = 0;
-            return Clocked {
-                due: true,
-                keyboard: k,
-            };
-        }
-        k.count = count;
-        Clocked {
-            due: false,
-            keyboard: k,
-        }
-    }
-
-    // What the device says of itself: 71 bytes.
-    pub fn report_descriptor() -> [u8; 71]
-        ensures { λ r. ⌜ r ≡ descriptor ⌝ }
-    {
-        REPORT_DESCRIPTOR
-    }
-
-    pub fn subclass() -> u8
-        ensures { λ r. ⌜ r ≡ subclassNumber ⌝ }
-    {
-        1
-    }
-
-    pub fn protocol() -> u8
-        ensures { λ r. ⌜ r ≡ protocolNumber ⌝ }
-    {
-        1
     }
 }

@@ -10,7 +10,8 @@ use super::Keyboard;
 use super::lent;
 use codes::KbHidReport;
 ghost use mathlib.Core.Path.{_≡_};
-ghost use Rattle.keyboard.specs.Keyboard.{reported, fetched, answered, idled, clocked};
+ghost use Rattle.keyboard.specs.Keyboard.{reported, fetched, lit};
+ghost use Rattle.keyboard.specs.Idle.{idled, clocked};
 
 pub fn set_keyboard_report(keyboard: Keyboard, report: KbHidReport) -> Changed
     ensures { λ r. ⌜ r ≡ reported keyboard report ⌝ }
@@ -32,7 +33,7 @@ pub fn get_report(keyboard: Keyboard, kind: u8, id: u8) -> Fetched
 }
 
 pub fn set_report(keyboard: Keyboard, kind: u8, id: u8, bytes: &[u8]) -> Answered
-    ensures { λ r. ⌜ r ≡ answered keyboard kind id (now (bytes .entry)) ⌝ }
+    ensures { λ r. ⌜ r ≡ lit keyboard kind id (now (bytes .entry)) ⌝ }
 {
     let mut kb = keyboard;
     let number = lent::keyboard_set_report(&mut kb, kind, id, bytes);

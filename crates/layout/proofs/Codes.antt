@@ -8,9 +8,9 @@ use lib.ListN.{length, take, getD}
 use lib.Seq.{take-suc}
 use Rattle.lists.specs.Lists.{keep}
 use Rattle.layout.specs.Steps.{sum, current, codes}
-use Rattle.layout.specs.declared.run.State.{State}
-use Rattle.layout.specs.declared.run.State.the-variants.{NormalKey, LayerModifier}
-use Rattle.layout.specs.declared.run.Slot.{Slot}
+use Rattle.layout.specs.declared.active.State.{State}
+use Rattle.layout.specs.declared.active.State.the-variants.{NormalKey, LayerModifier}
+use Rattle.layout.specs.declared.active.Slot.{Slot}
 use Rattle.layout.proofs.Pads.{map-append}
 
 -- the list has an element

@@ -17,17 +17,16 @@ use Rattle.image.specs.Words.{layersOf}
 use Rattle.image.specs.Tree.{Action, Actions, NoOp, Trans, KeyCode, MultipleKeyCodes, MultipleActions, Layer, DefaultLayer, HoldTap, end, _&_, tree}
 use Rattle.image.specs.Sound.{Sound}
 use Rattle.image.specs.Table.{tableOf}
-use Rattle.layout.specs.Model.{Model, Waiting, Idle, Waits, Done, fresh, still, withBase, withStates, withWaiting, withQueue}
+use Rattle.layout.specs.Model.{Queued, Model, Waiting, Idle, Waits, Done, ageOf, fresh, still, withBase, withStates, withWaiting, withQueue}
 use Rattle.layout.specs.Actions.{push, pushCodes, Verdict, Open, Now, verdict, find, begins, doAction, doActions, chosen, decided}
 use Rattle.layout.specs.Steps.{current, held, orDefault, pressed, stays, release, act, into, intoHold, released, releases, overflow, appended, entered, event, older, tickWait, ticked, tick}
 use Rattle.layout.specs.Packed.{holdOf, tapOf}
-use Rattle.layout.specs.Calls.{legalState, falling, mayWait}
-use Rattle.layout.specs.declared.run.State.{State}
-use Rattle.layout.specs.declared.run.State.the-variants.{NormalKey, LayerModifier}
-use Rattle.layout.specs.declared.run.Way.{Way}
-use Rattle.layout.specs.declared.run.Way.the-variants.{Tap, Hold}
+use Rattle.layout.specs.State.{legalState, falling, mayWait}
+use Rattle.layout.specs.declared.active.State.{State}
+use Rattle.layout.specs.declared.active.State.the-variants.{NormalKey, LayerModifier}
+use Rattle.layout.specs.declared.notes.Way.{Way}
+use Rattle.layout.specs.declared.notes.Way.the-variants.{Tap, Hold}
 use Rattle.layout.specs.declared.queue.Found.{Found}
-use Rattle.layout.specs.declared.queue.Stacked.{Stacked}
 use Rattle.layout.proofs.Pads.{keep-length}
 use Rattle.layout.proofs.Rooted.{Rooted, AllRooted, rooted-cell}
 
@@ -47,25 +46,25 @@ pub record Lawful (img : List ℕ) (l : Model) : Type 0 where
   pub waits : WaitsWell img (l .waiting)
 
 -- the ages of a queue fall: after a tick, without the first, and with a new event
-falling-older : (q : List Stacked) → falling q ≡ true → falling (older q) ≡ true
+pub falling-older : (q : List Queued) → falling q ≡ true → falling (older q) ≡ true
 unfolding falling
 falling-older [] h = refl
 falling-older (s ∷ []) h = refl
 falling-older (s ∷ (t ∷ q)) h =
-    let b = both-true (leb (t .since) (s .since)) (falling (t ∷ q)) h in
-    rw (le-leb (min (t .since + 1) 65535) (min (s .since + 1) 65535) (omega (arith, leb-true (t .since) (s .since) (b .0)))) (falling-older (t ∷ q) (b .1))
+    let b = both-true (leb (ageOf t) (ageOf s)) (falling (t ∷ q)) h in
+    rw (le-leb (min (ageOf t + 1) 65535) (min (ageOf s + 1) 65535) (omega (arith, leb-true (ageOf t) (ageOf s) (b .0)))) (falling-older (t ∷ q) (b .1))
 
-falling-rest : (s : Stacked) (q : List Stacked) → falling (s ∷ q) ≡ true → falling q ≡ true
+falling-rest : (s : Queued) (q : List Queued) → falling (s ∷ q) ≡ true → falling q ≡ true
 unfolding falling
 falling-rest s [] h = refl
-falling-rest s (t ∷ q) h = both-true (leb (t .since) (s .since)) (falling (t ∷ q)) h .1
+falling-rest s (t ∷ q) h = both-true (leb (ageOf t) (ageOf s)) (falling (t ∷ q)) h .1
 
-falling-new : (e : Event) (q : List Stacked) → falling q ≡ true → falling (appended e q) ≡ true
+pub falling-new : (e : Event) (q : List Queued) → falling q ≡ true → falling (appended e q) ≡ true
 unfolding falling
 falling-new e [] h = refl
-falling-new e (s ∷ []) h = rw (le-leb 0 (s .since) (omega arith))
+falling-new e (s ∷ []) h = rw (le-leb 0 (ageOf s) (omega arith))
 falling-new e (s ∷ (t ∷ q)) h =
-    let b = both-true (leb (t .since) (s .since)) (falling (t ∷ q)) h in
+    let b = both-true (leb (ageOf t) (ageOf s)) (falling (t ∷ q)) h in
     rw (b .0) (falling-new e (t ∷ q) (b .1))
 
 every-keep : (p t : State → Bool) (l : List State) → every p l ≡ true → every p (keep t l) ≡ true
@@ -88,7 +87,7 @@ may-fewer (DefaultLayer v) k h = h
 may-fewer (HoldTap i t x y) k h = le-leb (k - 1) t (omega (arith, leb-true k t h))
 
 module _ (img : List ℕ) where
-  with-queue : (l : Model) (q : List Stacked) → Lawful img l → length q ≤ 16 → falling q ≡ true → Lawful img (withQueue q l)
+  with-queue : (l : Model) (q : List Queued) → Lawful img l → length q ≤ 16 → falling q ≡ true → Lawful img (withQueue q l)
   with-queue l q w h f = record { few = w .few; short = h; codes = w .codes; base = w .base; ages = f; waits = w .waits }
 
   with-waiting : (l : Model) (x : Waiting) → Lawful img l → WaitsWell img x → Lawful img (withWaiting x l)
@@ -192,11 +191,11 @@ module _ (img : List ℕ) where
     unfolding released
     released-lawful e l w = lawful-if (releases e (l .waiting)) (into Tap (tableOf img) (l .waiting) l) (still l) (λ h. into-lawful Tap (l .waiting) l (w .waits) w) w
 
-    overflow-lawful : (s : Stacked) (l : Model) → Lawful img l → Lawful img (overflow (tableOf img) s l .layout)
+    overflow-lawful : (s : Queued) (l : Model) → Lawful img l → Lawful img (overflow (tableOf img) s l .layout)
     unfolding overflow
-    overflow-lawful s l w = act-lawful (s .event) (s .since) (intoHold (tableOf img) (l .waiting) l .layout) (into-lawful Hold (l .waiting) l (w .waits) w)
+    overflow-lawful s l w = act-lawful (s .event) (ageOf s) (intoHold (tableOf img) (l .waiting) l .layout) (into-lawful Hold (l .waiting) l (w .waits) w)
 
-    entered-lawful : (e : Event) (q : List Stacked) (l : Model) → length q ≤ 16 → falling q ≡ true → Lawful img l → Lawful img (entered (tableOf img) e q l .layout)
+    entered-lawful : (e : Event) (q : List Queued) (l : Model) → length q ≤ 16 → falling q ≡ true → Lawful img l → Lawful img (entered (tableOf img) e q l .layout)
     unfolding entered
     entered-lawful e [] l h f w = with-queue l (appended e []) w (omega arith) (falling-new e [] f)
     entered-lawful e (s ∷ q) l h f w =
@@ -212,12 +211,12 @@ module _ (img : List ℕ) where
     wait-lawful zero l w = into-lawful Hold (l .waiting) l (w .waits) w
     wait-lawful (suc k) l w = w
 
-    ticked-lawful : (x : Waiting) (q : List Stacked) (l : Model) → WaitsWell img x → length q ≤ 16 → falling q ≡ true → Lawful img l → Lawful img (ticked (tableOf img) x q l .layout)
+    ticked-lawful : (x : Waiting) (q : List Queued) (l : Model) → WaitsWell img x → length q ≤ 16 → falling q ≡ true → Lawful img l → Lawful img (ticked (tableOf img) x q l .layout)
     unfolding ticked
     ticked-lawful (Waits c k i a b) q l h n f w =
         wait-lawful (k - 1) (withWaiting (Waits c (k - 1) i a b) (withQueue q l)) (with-waiting (withQueue q l) (Waits c (k - 1) i a b) (with-queue l q w n f) (may-fewer (tree img i) k (h .0), h .1, h .2, h .3, h .4))
     ticked-lawful Idle [] l h n f w = with-queue l [] w n f
-    ticked-lawful Idle (s ∷ q) l h n f w = act-lawful (s .event) (s .since) (withQueue q l) (with-queue l q w (omega arith) (falling-rest s q f))
+    ticked-lawful Idle (s ∷ q) l h n f w = act-lawful (s .event) (ageOf s) (withQueue q l) (with-queue l q w (omega arith) (falling-rest s q f))
 
     pub tick-lawful : (l : Model) → Lawful img l → Lawful img (tick (tableOf img) l .layout)
     unfolding tick

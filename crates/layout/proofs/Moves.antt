@@ -1,6 +1,7 @@
--- Laws of the steps of a layout, by cases, and of both parts that come by them. Assumes nothing.
---     did-of, did-as, did-then      a step of a run, where the queue is known
---     went-did, went-as, went-then  a step of both parts
+-- Laws of the steps of a layout, by cases, and of the stages of a call that come by them. Assumes nothing.
+--     did-nothing, did-moves, did-acted     a stage with one part changed, and the step that it is
+--     did-as, did-then                      the same step by another name; one step after another
+--     Finished, finished, tick-goes, event-goes     a whole call
 use mathlib.Core.Path.{_≡_, refl, sym, ap, subst, _∙_}
 use mathlib.Core.Bool.{true, false}
 use mathlib.Core.List.{List, [], _∷_}
@@ -11,72 +12,79 @@ use borrow.Author.Tests.{lt-ltb, le-ltb}
 use Rattle.event.specs.declared.Event.{Event}
 use Rattle.event.specs.declared.Coord.{Coord}
 use Rattle.image.specs.Words.{layersOf}
-use Rattle.image.specs.Tree.{Action, tree}
+use Rattle.image.specs.Tree.{Action}
 use Rattle.image.specs.Table.{Table, tableOf}
-use Rattle.layout.specs.Model.{Model, Waiting, Idle, Waits, Done, still, after, withWaiting, withQueue}
-use Rattle.layout.specs.Actions.{find, decided}
+use Rattle.layout.specs.Model.{Queued, Model, Waiting, Idle, Waits, Acted, Done, ageOf, still, marked, after, withWaiting, withQueue}
+use Rattle.layout.specs.Actions.{decided}
 use Rattle.layout.specs.Steps.{act, into, intoHold, intoTap, releases, released, overflow, appended, entered, event, older, tickWait, ticked, tick}
-use Rattle.layout.specs.Packed.{listIn, holdOf, tapOf, waitingOf, modelOf, noted, notedMarks}
-use Rattle.layout.specs.Inside.{Parts, Tidy, Lined, Does, Did, Fit, Went, layoutIn}
-use Rattle.layout.specs.declared.run.WaitingState.{WaitingState}
-use Rattle.layout.specs.declared.run.Waiting.{Waiting as WaitingIn}
-use Rattle.layout.specs.declared.run.Waiting.the-variants as waiting
-use Rattle.layout.specs.declared.run.Way.{Way}
-use Rattle.layout.specs.declared.run.Way.the-variants.{Hold}
-use Rattle.layout.specs.declared.run.Notes.{Notes}
-use Rattle.layout.specs.declared.run.Run.{Run}
-use Rattle.layout.specs.declared.queue.Stacked.{Stacked}
+use Rattle.layout.specs.Packed.{listIn, waitingOf, waitsAt, modelOf, unpack}
+use Rattle.layout.specs.Notes.{noNotes, noteActed, noted, notedMarks}
+use Rattle.layout.specs.Inside.{Tidy, Lined, Moves, Did, Steps, settingOf, becomes, waitedOne}
+use Rattle.layout.specs.Effects.{effectOf, Settled, Grown}
+use Rattle.layout.specs.declared.active.Active.{Active}
+use Rattle.layout.specs.declared.active.WaitingState.{WaitingState}
+use Rattle.layout.specs.declared.active.Waiting.{Waiting as WaitingIn}
+use Rattle.layout.specs.declared.active.Waiting.the-variants as waiting
+use Rattle.layout.specs.declared.notes.Way.{Way}
+use Rattle.layout.specs.declared.notes.Way.the-variants.{Hold}
+use Rattle.layout.specs.declared.notes.Notes.{Notes}
 use Rattle.layout.specs.declared.queue.Queue.{Queue}
-use Rattle.layout.proofs.Runs.{noted-append, does-nothing}
+use Rattle.layout.specs.declared.action.Setting.{Setting}
+use Rattle.layout.specs.declared.effect.Effect.{Effect}
+use Rattle.layout.specs.declared.effect.Progress.{Progress}
+use Rattle.layout.specs.declared.layout.Layout.{Layout}
+use Rattle.layout.proofs.Noted.{noted-append}
+use Rattle.layout.proofs.Effects.{did-effect}
+
+-- a call that began with no notes has come to its end by a step, with this queue
+abbrev pub Finished : List ℕ → Progress → Queue → Done → Type 0
+Finished img end queue done = Lined queue × Did img noNotes end (listIn queue) done
 
 module _ (img : List ℕ) where
-  pub did-of : {a b : Run} {f : Model → Done} (q : List Stacked) → Does img a b f → Did img a b q (f (modelOf img a q))
-  did-of q d = record { tidy = d .tidy; ran = d .ran q }
-
-  pub did-as : {a b : Run} {q : List Stacked} {x y : Done} → Did img a b q x → x ≡ y → Did img a b q y
-  did-as {a} {b} {q} d e = subst (Did img a b q) e d
-
-  pub did-then : {a b c : Run} {q : List Stacked} {x : Done} (g : Model → Done) → Did img a b q x → Did img b c q (g (modelOf img b q)) → Did img a c q (after x (g (x .layout)))
-  did-then {a} {b} {c} {q} {x} g d e =
-      let r : Did img b c q (g (x .layout)) = subst (λ (m : Model). Did img b c q (g m)) (d .ran .is) e in
-      record {
-        tidy = r .tidy;
-        ran = record { is = r .ran .is; notes = r .ran .notes ∙ ap (λ (n : Notes). notedMarks n (g (x .layout) .marks)) (d .ran .notes) ∙ sym (noted-append (a .notes) (x .marks) (g (x .layout) .marks)) };
-      }
-
-  -- a run by a step, and a queue that holds the list l
-  pub went-did : (parts : Parts) (end : Run) (queue : Queue) (l : List Stacked) (f : Model → Done) → Lined queue → listIn queue ≡ l
-      → Did img (parts .run) end (listIn queue) (f (modelOf img (parts .run) (listIn queue)))
-      → Went img parts (record { run = end; queue = queue }) (f (withQueue l (layoutIn img parts)))
-  went-did parts end queue l f t e d =
-      subst (λ (x : List Stacked). Went img parts (record { run = end; queue = queue }) (f (modelOf img (parts .run) x))) e
-      (record { tidy = d .tidy; lined = t; is = d .ran .is; notes = d .ran .notes })
-
-  pub went-as : {a b : Parts} {x y : Done} → Went img a b x → x ≡ y → Went img a b y
-  went-as {a} {b} w e = subst (Went img a b) e w
-
-  pub went-nothing : (parts : Parts) → Fit parts → Went img parts parts (still (layoutIn img parts))
+  pub did-nothing : (active : Active) (notes : Notes) (q : List Queued) → Tidy active → Did img notes (record { active = active; notes = notes }) q (still (modelOf img active q))
   unfolding notedMarks
-  went-nothing parts f = record { tidy = f .tidy; lined = f .lined; is = refl; notes = refl }
+  did-nothing active notes q t = record { tidy = t; is = refl; notes = refl }
 
-  pub went-then : {a b c : Parts} {x : Done} (g : Model → Done) → Went img a b x → Went img b c (g (layoutIn img b)) → Went img a c (after x (g (x .layout)))
-  went-then {a} {b} {c} {x} g d e =
-      let r : Went img b c (g (x .layout)) = subst (λ (m : Model). Went img b c (g m)) (d .is) e in
+  pub did-moves : (active end : Active) (notes : Notes) (q : List Queued) {move : Model → Model} → Moves img active end move
+      → Did img notes (record { active = end; notes = notes }) q (still (move (modelOf img active q)))
+  unfolding notedMarks
+  did-moves active end notes q m = record { tidy = m .tidy; is = m .is q; notes = refl }
+
+  -- an event is acted on, and that is noted first
+  pub did-acted : (notes noting : Notes) (end : Progress) (q : List Queued) (e : Event) (done : Done) → noting ≡ noteActed notes e → Did img noting end q done → Did img notes end q (marked (Acted e) done)
+  unfolding notedMarks
+  did-acted notes noting end q e done en d = record { tidy = d .tidy; is = d .is; notes = d .notes ∙ ap (λ (n : Notes). noted n done) en }
+
+  pub did-as : {notes : Notes} {end : Progress} {q : List Queued} {x y : Done} → Did img notes end q x → x ≡ y → Did img notes end q y
+  did-as {notes} {end} {q} d e = subst (Did img notes end q) e d
+
+  pub did-then : {notes : Notes} {b c : Progress} {q : List Queued} {x : Done} (g : Model → Done) → Did img notes b q x → Did img (b .notes) c q (g (modelOf img (b .active) q)) → Did img notes c q (after x (g (x .layout)))
+  did-then {notes} {b} {c} {q} {x} g d e =
+      let r : Did img (b .notes) c q (g (x .layout)) = subst (λ (m : Model). Did img (b .notes) c q (g m)) (d .is) e in
       record {
         tidy = r .tidy;
-        lined = r .lined;
         is = r .is;
-        notes = r .notes ∙ ap (λ (n : Notes). notedMarks n (g (x .layout) .marks)) (d .notes) ∙ sym (noted-append (a .run .notes) (x .marks) (g (x .layout) .marks));
+        notes = r .notes ∙ ap (λ (n : Notes). noted n (g (x .layout))) (d .notes) ∙ sym (noted-append notes (x .marks) (g (x .layout) .marks));
       }
+
+  -- a call that began with no notes, and a queue that holds the list l
+  pub finished : (lay : Layout) (none : Notes) (end : Progress) (queue : Queue) (l : List Queued) (f : Model → Done) → none ≡ noNotes → Lined queue → listIn queue ≡ l
+      → Steps img (lay .active) none end queue f → Finished img end queue (f (withQueue l (unpack img lay)))
+  finished lay none end queue l f en t e d =
+      let listed : Did img none end (listIn queue) (f (modelOf img (lay .active) l)) = subst (λ (x : List Queued). Did img none end (listIn queue) (f (modelOf img (lay .active) x))) e d in
+      (t, subst (λ (n : Notes). Did img n end (listIn queue) (f (modelOf img (lay .active) l))) en listed)
+
+  pub finished-as : {end : Progress} {queue : Queue} {x y : Done} → Finished img end queue x → x ≡ y → Finished img end queue y
+  finished-as w e = (w .0, did-as (w .1) e)
 
 -- an event entered, where there is room and where there is not
 module _ (T : Table) (e : Event) where
-  pub entered-room : (q : List Stacked) (l : Model) → length q < 16 → entered T e q l ≡ still (withQueue (appended e q) l)
+  pub entered-room : (q : List Queued) (l : Model) → length q < 16 → entered T e q l ≡ still (withQueue (appended e q) l)
   unfolding entered
   entered-room [] l h = refl
   entered-room (s ∷ q) l h = rw (lt-ltb (length (s ∷ q)) 16 h)
 
-  pub entered-full : (q : List Stacked) (l : Model) (d : Stacked) → 16 ≤ length q → entered T e q l ≡ overflow T (getD q 0 d) (withQueue (appended e (drop 1 q)) l)
+  pub entered-full : (q : List Queued) (l : Model) (d : Queued) → 16 ≤ length q → entered T e q l ≡ overflow T (getD q 0 d) (withQueue (appended e (drop 1 q)) l)
   unfolding entered
   entered-full [] l d h = absurd (omega arith)
   entered-full (s ∷ q) l d h = rw (le-ltb (length (s ∷ q)) 16 h)
@@ -101,16 +109,16 @@ module _ (T : Table) (l : Model) where
   unfolding tick ticked
   tick-none e z = ap (λ (w : Waiting). ticked T w (older (l .queue)) l) e ∙ go (older (l .queue)) z
     where
-      go : (q : List Stacked) → length q ≡ 0 → ticked T Idle q l ≡ still (withQueue q l)
+      go : (q : List Queued) → length q ≡ 0 → ticked T Idle q l ≡ still (withQueue q l)
       go [] h = refl
       go (s ∷ q) h = absurd (omega arith)
 
-  pub tick-some : l .waiting ≡ Idle → 0 < length (older (l .queue)) → (d : Stacked)
-      → tick T l ≡ act T (getD (older (l .queue)) 0 d .event) (getD (older (l .queue)) 0 d .since) (withQueue (drop 1 (older (l .queue))) l)
+  pub tick-some : l .waiting ≡ Idle → 0 < length (older (l .queue)) → (d : Queued)
+      → tick T l ≡ act T (getD (older (l .queue)) 0 d .event) (ageOf (getD (older (l .queue)) 0 d)) (withQueue (drop 1 (older (l .queue))) l)
   unfolding tick ticked
   tick-some e z d = ap (λ (w : Waiting). ticked T w (older (l .queue)) l) e ∙ go (older (l .queue)) z
     where
-      go : (q : List Stacked) → 0 < length q → ticked T Idle q l ≡ act T (getD q 0 d .event) (getD q 0 d .since) (withQueue (drop 1 q) l)
+      go : (q : List Queued) → 0 < length q → ticked T Idle q l ≡ act T (getD q 0 d .event) (ageOf (getD q 0 d)) (withQueue (drop 1 q) l)
       go [] h = absurd (omega arith)
       go (s ∷ q) h = refl
 
@@ -122,56 +130,52 @@ module _ (T : Table) (l : Model) where
   wait-up zero h = refl
   wait-up (suc k) h = absurd (omega arith)
 
-module _ (img : List ℕ) (run : Run) (q : List Stacked) where
-  -- nothing waits, so nothing becomes hold or tap; and what waits is decided
-  pub into-none : (way : Way) → Tidy run → run .waiting ≡ waiting.Nothing → Did img run run q (into way (tableOf img) (waitingOf img (run .waiting)) (modelOf img run q))
+-- nothing waits, so nothing becomes hold or tap; and what waits is decided
+module _ (img : List ℕ) (active : Active) (notes : Notes) (way : Way) where
+  pub into-none : (q : List Queued) → Tidy active → active .waiting ≡ waiting.Nothing
+      → Did img notes (record { active = active; notes = notes }) q (into way (tableOf img) (waitingOf img (active .waiting)) (modelOf img active q))
   unfolding into
-  into-none way t e =
-      did-as img (did-of img q (does-nothing img run t)) (sym (ap (λ (w : WaitingIn). into way (tableOf img) (waitingOf img w) (modelOf img run q)) e))
+  into-none q t e = did-as img (did-nothing img active notes q t) (sym (ap (λ (w : WaitingIn). into way (tableOf img) (waitingOf img w) (modelOf img active q)) e))
 
-  pub into-decided : (way : Way) (end : Run) (ws : WaitingState) (layers : ℕ) → waitingOf img (run .waiting) ≡ waitingOf img (waiting.On ws) → layers ≡ layersOf img
-      → Did img run end q (decided way (holdOf (tree img (ws .number))) (tapOf (tree img (ws .number))) layers (ws .coord) (find (ws .coord) q) (modelOf img run q))
-      → Did img run end q (into way (tableOf img) (waitingOf img (run .waiting)) (modelOf img run q))
+  pub into-on : (q : List Queued) (end : Progress) (w : WaitingState) → active .waiting ≡ waiting.On w → Did img notes end q (becomes img way w (modelOf img active q))
+      → Did img notes end q (into way (tableOf img) (waitingOf img (active .waiting)) (modelOf img active q))
+  into-on q end w e d = did-as img d (sym (ap (λ (x : WaitingIn). into way (tableOf img) (waitingOf img x) (modelOf img active q)) e))
+
+  -- the HoldTap that waits is decided in its setting, and what that left is taken
+  pub becomes-so : (layers : ℕ) (queue : Queue) (w : WaitingState) (setting : Setting) (effect last : Effect) (a b : List ℕ) (end : Progress) → Tidy active → layers ≡ layersOf img
+      → setting ≡ settingOf layers queue (w .coord) → effect ≡ effectOf active notes → Settled img (w .number) setting way effect last a b → Grown active last b (w .coord) end
+      → Steps img active notes end queue (becomes img way w)
   unfolding into
-  into-decided way end ws layers e el d =
-      did-as img d (rw el (sym (ap (λ (w : Waiting). into way (tableOf img) w (modelOf img run q)) e)))
+  becomes-so layers queue w setting effect last a b end t el es ee d g =
+      let there : Settled img (w .number) (settingOf layers queue (w .coord)) way effect last a b = subst (λ (s : Setting). Settled img (w .number) s way effect last a b) es d in
+      did-as img (did-effect img (w .coord) active notes end effect last a b t ee there g (listIn queue)) (rw el)
 
--- a tick where something waits: it has a tick less, and becomes hold where none is left
-module _ (img : List ℕ) (run next : Run) (q : List Stacked) (ws : WaitingState) (k : ℕ) (ek : k ≡ ws .left - 1)
-    (d : Does img run next (λ l. still (withWaiting (waitingOf img (waiting.On (record { coord = ws .coord; left = k; number = ws .number }))) l))) where
-  abbrev fewer : Waiting
-  fewer = waitingOf img (waiting.On (record { coord = ws .coord; left = ws .left - 1; number = ws .number }))
+-- a tick where something waits: it has a tick less, or becomes hold where none is left
+module _ (img : List ℕ) (active : Active) (notes : Notes) (queue : Queue) (w : WaitingState) (k : ℕ) (ek : k ≡ w .left - 1) where
+  pub did-waiting : (next : Active) → Moves img active next (withWaiting (waitingOf img (waitsAt (w .coord) k (w .number)))) → 0 < k
+      → Steps img active notes (record { active = next; notes = notes }) queue (waitedOne img w)
+  did-waiting next m h =
+      let fewer = subst (λ (x : ℕ). Moves img active next (withWaiting (waitingOf img (waitsAt (w .coord) x (w .number))))) ek m in
+      did-as img (did-moves img active next notes (listIn queue) fewer) (sym (wait-on (tableOf img) _ (w .left - 1) (omega arith)))
 
-  fewer-does : Does img run next (λ l. still (withWaiting fewer l))
-  fewer-does = subst (λ (x : ℕ). Does img run next (λ l. still (withWaiting (waitingOf img (waiting.On (record { coord = ws .coord; left = x; number = ws .number }))) l))) ek d
+  -- what waits is gone once it is decided, so that how many ticks it had left is all the same
+  pub did-up : (end : Progress) → k ≤ 0 → Steps img active notes end queue (becomes img Hold w) → Steps img active notes end queue (waitedOne img w)
+  unfolding into decided
+  did-up end h d = did-as img d (sym (wait-up (tableOf img) _ (w .left - 1) (omega arith)))
 
-  pub did-waiting : 0 < k → Did img run next q (tickWait (tableOf img) (ws .left - 1) (withWaiting fewer (modelOf img run q)))
-  did-waiting h = did-as img (did-of img q fewer-does) (sym (wait-on (tableOf img) _ (ws .left - 1) (omega arith)))
+-- a tick of a whole layout, where something waits
+pub tick-goes : (img : List ℕ) (lay : Layout) (none : Notes) (w : WaitingState) (queue : Queue) (end : Progress) → none ≡ noNotes → lay .active .waiting ≡ waiting.On w → Lined queue → listIn queue ≡ older (listIn (lay .queue))
+    → Steps img (lay .active) none end queue (waitedOne img w) → Finished img end queue (tick (tableOf img) (unpack img lay))
+tick-goes img lay none w queue end en e t eq d =
+    finished-as img (finished img lay none end queue (older (listIn (lay .queue))) (waitedOne img w) en t eq d)
+    (sym (tick-on (tableOf img) (unpack img lay) (w .coord) (w .left) (w .number) _ _ (ap (waitingOf img) e)))
 
-  pub did-up : (end : Run) (layers : ℕ) → k ≤ 0 → layers ≡ layersOf img
-      → Did img next end q (decided Hold (holdOf (tree img (ws .number))) (tapOf (tree img (ws .number))) layers (ws .coord) (find (ws .coord) q) (modelOf img next q))
-      → Did img run end q (tickWait (tableOf img) (ws .left - 1) (withWaiting fewer (modelOf img run q)))
-  did-up end layers h el up =
-      let now : waitingOf img (next .waiting) ≡ fewer = ap (λ (m : Model). m .waiting) (fewer-does .ran q .is) in
-      did-as img
-      (did-then img (λ (x : Model). into Hold (tableOf img) (x .waiting) x) (did-of img q fewer-does) (into-decided img next q Hold end (record { coord = ws .coord; left = ws .left - 1; number = ws .number }) layers now el up))
-      (sym (wait-up (tableOf img) _ (ws .left - 1) (omega arith)))
-
--- a tick of both parts, where something waits
-pub tick-goes : (img : List ℕ) (parts : Parts) (ws : WaitingState) (queue : Queue) (end : Run) → parts .run .waiting ≡ waiting.On ws → Lined queue → listIn queue ≡ older (listIn (parts .queue))
-    → Did img (parts .run) end (listIn queue) (tickWait (tableOf img) (ws .left - 1) (withWaiting (waitingOf img (waiting.On (record { coord = ws .coord; left = ws .left - 1; number = ws .number }))) (modelOf img (parts .run) (listIn queue))))
-    → Went img parts (record { run = end; queue = queue }) (tick (tableOf img) (layoutIn img parts))
-tick-goes img parts ws queue end e t eq d =
-    let fewer : Waiting = waitingOf img (waiting.On (record { coord = ws .coord; left = ws .left - 1; number = ws .number })) in
-    went-as img (went-did img parts end queue (older (listIn (parts .queue))) (λ (l : Model). tickWait (tableOf img) (ws .left - 1) (withWaiting fewer l)) t eq d)
-    (sym (tick-on (tableOf img) (layoutIn img parts) (ws .coord) (ws .left) (ws .number) _ _ (ap (waitingOf img) e)))
-
--- an event of both parts: it is entered by a step, and then what waits for its release becomes tap
-pub event-goes : (img : List ℕ) (parts : Parts) (e : Event) (queue : Queue) (end : Run) (l : List Stacked) (enter : Model → Done) → Lined queue → listIn queue ≡ l
-    → entered (tableOf img) e (listIn (parts .queue)) (layoutIn img parts) ≡ enter (withQueue l (layoutIn img parts))
-    → Did img (parts .run) end (listIn queue) (let r = enter (modelOf img (parts .run) (listIn queue)) in after r (released (tableOf img) e (r .layout)))
-    → Went img parts (record { run = end; queue = queue }) (event (tableOf img) e (layoutIn img parts))
+-- an event of a whole layout: it is entered by a step, and then what waits for its release becomes tap
+pub event-goes : (img : List ℕ) (lay : Layout) (none : Notes) (e : Event) (queue : Queue) (end : Progress) (l : List Queued) (enter : Model → Done) → none ≡ noNotes → Lined queue → listIn queue ≡ l
+    → entered (tableOf img) e (listIn (lay .queue)) (unpack img lay) ≡ enter (withQueue l (unpack img lay))
+    → Steps img (lay .active) none end queue (λ (m : Model). after (enter m) (released (tableOf img) e (enter m .layout)))
+    → Finished img end queue (event (tableOf img) e (unpack img lay))
 unfolding event
-event-goes img parts e queue end l enter t el eq d =
-    went-as img (went-did img parts end queue l (λ (m : Model). after (enter m) (released (tableOf img) e (enter m .layout))) t el d)
+event-goes img lay none e queue end l enter en t el eq d =
+    finished-as img (finished img lay none end queue l (λ (m : Model). after (enter m) (released (tableOf img) e (enter m .layout))) en t el d)
     (sym (ap (λ (r : Done). after r (released (tableOf img) e (r .layout))) eq))

@@ -16,7 +16,7 @@ use Rattle.image.specs.Record.{actionAt, codesIn, childrenIn, cellAt}
 use Rattle.image.specs.Tree.{Action, Actions, NoOp, Trans, KeyCode, MultipleKeyCodes, MultipleActions, Layer, DefaultLayer, HoldTap, end, _&_, named, meaning, tree}
 use Rattle.image.specs.Sound.{Sound}
 use Rattle.image.specs.Table.{tableOf, treeIn}
-use Rattle.image.specs.declared.record.Action.{Action as Record}
+use Rattle.image.specs.declared.record.Action.{Action as Coded}
 use Rattle.image.specs.declared.record.Action.the-variants as code
 use Rattle.image.specs.declared.record.Cell.{Cell}
 use Rattle.image.specs.declared.record.Cell.the-variants as cell
@@ -46,7 +46,7 @@ module _ (img : List ℕ) where
       let h = both-true (ltb k n) (every (λ k. ltb k n) ks) e in
       (below k (ltb-true k n (h .0)), rooted-named n below ks (h .1))
 
-  rooted-means : (n : ℕ) → ((k : ℕ) → k < n → Rooted img (tree img k)) → (a : Record) → tree img n ≡ meaning img (tree img) n a → every legal (codesIn img a) ≡ true → every (λ k. ltb k n) (childrenIn img a) ≡ true
+  rooted-means : (n : ℕ) → ((k : ℕ) → k < n → Rooted img (tree img k)) → (a : Coded) → tree img n ≡ meaning img (tree img) n a → every legal (codesIn img a) ≡ true → every (λ k. ltb k n) (childrenIn img a) ≡ true
       → Rooted img (meaning img (tree img) n a)
   unfolding Rooted meaning codesIn childrenIn every
   rooted-means n below code.NoOp e codes lower = tt

@@ -1,7 +1,7 @@
 -- Laws of the State check: each test one place on, and what a layout that passes is. Assumes nothing.
 use mathlib.Core.Path.{_≡_, refl, sym, ap, _∙_}
 use mathlib.Core.Bool.{Bool, true, false, _&&_}
-use mathlib.Core.List.{List, [], _∷_}
+use mathlib.Core.List.{List, [], _∷_, map}
 use Prim.Native.Nat.{ℕ, _+_, _≤_, _<_}
 use native.Mathlib.Omega.{arith}
 use borrow.Author.Tests.{leb-true, ltb-true, eqb-true, le-leb, lt-leb}
@@ -15,16 +15,16 @@ use Rattle.event.specs.declared.Event.{Event}
 use Rattle.event.specs.declared.Event.the-variants.{Release, Press}
 use Rattle.image.specs.Words.{layersOf}
 use Rattle.image.specs.Tree.{Action, meaning}
-use Rattle.image.specs.declared.record.Action.{Action as Record}
+use Rattle.image.specs.declared.record.Action.{Action as Coded}
 use Rattle.image.specs.declared.record.Action.the-variants as code
 use Rattle.image.proofs.record.Action.{the-type}
-use Rattle.layout.specs.Packed.{noSlot, noStacked}
-use Rattle.layout.specs.Calls.{legalSlot, falling, mayWait, waitingGood, unusedState, unusedSlot, unusedEvent, unusedStacked, stateGood}
-use Rattle.layout.specs.Parts.{partsOf}
-use Rattle.layout.specs.Inside.{Fit}
-use Rattle.layout.specs.declared.run.State.{State}
-use Rattle.layout.specs.declared.run.State.the-variants.{NormalKey, LayerModifier}
-use Rattle.layout.specs.declared.run.Slot.{Slot}
+use Rattle.layout.specs.Model.{Queued}
+use Rattle.layout.specs.Packed.{noSlot, noStacked, queuedOf, listIn}
+use Rattle.layout.specs.State.{legalSlot, falling, mayWait, waitingGood, unusedState, unusedSlot, unusedEvent, unusedStacked, stateGood}
+use Rattle.layout.specs.Inside.{Tidy, Lined}
+use Rattle.layout.specs.declared.active.State.{State}
+use Rattle.layout.specs.declared.active.State.the-variants.{NormalKey, LayerModifier}
+use Rattle.layout.specs.declared.active.Slot.{Slot}
 use Rattle.layout.specs.declared.queue.Stacked.{Stacked}
 use Rattle.layout.specs.declared.layout.Layout.{Layout}
 use Rattle.layout.proofs.Pads.{drop-one, padded}
@@ -41,25 +41,31 @@ module _ {A : Type 0} (p : A → Bool) (l : List A) (n i : ℕ) (d : A) (h : i <
 
 -- the ages of two that follow each other
 module _ (l : List Stacked) (n i : ℕ) (d : Stacked) (h : i + 1 < n) (long : n ≤ length l) where
-  two-on : drop i (take n l) ≡ getD l i d ∷ (getD l (i + 1) d ∷ drop (i + 1 + 1) (take n l))
-  two-on = drop-one l n i d (omega arith) long ∙ ap (λ (x : List Stacked). getD l i d ∷ x) (drop-one l n (i + 1) d h long)
+  abbrev from : ℕ → List Queued
+  from k = map queuedOf (drop k (take n l))
 
-  pub falling-next : getD l (i + 1) d .since ≤ getD l i d .since → falling (drop i (take n l)) ≡ falling (drop (i + 1) (take n l))
+  next-on : from (i + 1) ≡ queuedOf (getD l (i + 1) d) ∷ from (i + 1 + 1)
+  next-on = ap (map queuedOf) (drop-one l n (i + 1) d h long)
+
+  two-on : from i ≡ queuedOf (getD l i d) ∷ (queuedOf (getD l (i + 1) d) ∷ from (i + 1 + 1))
+  two-on = ap (map queuedOf) (drop-one l n i d (omega arith) long) ∙ ap (λ (x : List Queued). queuedOf (getD l i d) ∷ x) next-on
+
+  pub falling-next : getD l (i + 1) d .since ≤ getD l i d .since → falling (from i) ≡ falling (from (i + 1))
   unfolding falling
-  falling-next e = ap falling two-on ∙ rw (le-leb _ _ e) (sym (ap falling (drop-one l n (i + 1) d h long)))
+  falling-next e = ap falling two-on ∙ rw (le-leb _ _ e) (sym (ap falling next-on))
 
-  pub falling-stop : getD l i d .since < getD l (i + 1) d .since → falling (drop i (take n l)) ≡ false
+  pub falling-stop : getD l i d .since < getD l (i + 1) d .since → falling (from i) ≡ false
   unfolding falling
   falling-stop e = ap falling two-on ∙ rw (lt-leb _ _ e)
 
-pub falling-short : (l : List Stacked) → length l ≤ 1 → falling l ≡ true
+pub falling-short : (l : List Queued) → length l ≤ 1 → falling l ≡ true
 unfolding falling
 falling-short [] h = refl
 falling-short (s ∷ []) h = refl
 falling-short (s ∷ (t ∷ l)) h = absurd (omega arith)
 
 -- a record that is no HoldTap may not wait
-pub no-wait : (img : List ℕ) (n : ℕ) (t : ℕ → Action) (a : Record) (left : ℕ) → OneOf (0 ∷ 1 ∷ 2 ∷ 3 ∷ 4 ∷ 5 ∷ 6 ∷ []) (tagOf the-type a) → mayWait (meaning img t n a) left ≡ false
+pub no-wait : (img : List ℕ) (n : ℕ) (t : ℕ → Action) (a : Coded) (left : ℕ) → OneOf (0 ∷ 1 ∷ 2 ∷ 3 ∷ 4 ∷ 5 ∷ 6 ∷ []) (tagOf the-type a) → mayWait (meaning img t n a) left ≡ false
 unfolding meaning
 no-wait img n t code.NoOp left h = refl
 no-wait img n t code.Trans left h = refl
@@ -72,30 +78,30 @@ no-wait img n t (code.HoldTap w k p) left h = absurd (miss (0 ∷ 1 ∷ 2 ∷ 3 
 
 -- the parts of a layout that State is not given for
 pub record Legal (img : List ℕ) (lay : Layout) : Type 0 where
-  pub few : lay .len ≤ 64
-  pub short : lay .queued ≤ 16
-  pub codes : every legalSlot (take (lay .len) (lay .states)) ≡ true
-  pub base : lay .«default_layer» < layersOf img
-  pub ages : falling (take (lay .queued) (lay .stacked)) ≡ true
-  pub waits : waitingGood img (lay .waiting) ≡ true
-  pub slots : every unusedSlot (drop (lay .len) (lay .states)) ≡ true
-  pub events : every unusedStacked (drop (lay .queued) (lay .stacked)) ≡ true
+  pub few : lay .active .len ≤ 64
+  pub short : lay .queue .queued ≤ 16
+  pub codes : every legalSlot (take (lay .active .len) (lay .active .states)) ≡ true
+  pub base : lay .active .«default_layer» < layersOf img
+  pub ages : falling (listIn (lay .queue)) ≡ true
+  pub waits : waitingGood img (lay .active .waiting) ≡ true
+  pub slots : every unusedSlot (drop (lay .active .len) (lay .active .states)) ≡ true
+  pub events : every unusedStacked (drop (lay .queue .queued) (lay .queue .stacked)) ≡ true
 
 pub legal : (img : List ℕ) (lay : Layout) → stateGood img lay ≡ true → Legal img lay
 unfolding stateGood
 legal img lay e =
-    let a = both-true (leb (lay .len) 64) _ e in
-    let b = both-true (leb (lay .queued) 16) _ (a .1) in
-    let c = both-true (every legalSlot (take (lay .len) (lay .states))) _ (b .1) in
-    let d = both-true (ltb (lay .«default_layer») (layersOf img)) _ (c .1) in
-    let f = both-true (falling (take (lay .queued) (lay .stacked))) _ (d .1) in
-    let g = both-true (waitingGood img (lay .waiting)) _ (f .1) in
-    let h = both-true (every unusedSlot (drop (lay .len) (lay .states))) (every unusedStacked (drop (lay .queued) (lay .stacked))) (g .1) in
+    let a = both-true (leb (lay .active .len) 64) _ e in
+    let b = both-true (leb (lay .queue .queued) 16) _ (a .1) in
+    let c = both-true (every legalSlot (take (lay .active .len) (lay .active .states))) _ (b .1) in
+    let d = both-true (ltb (lay .active .«default_layer») (layersOf img)) _ (c .1) in
+    let f = both-true (falling (listIn (lay .queue))) _ (d .1) in
+    let g = both-true (waitingGood img (lay .active .waiting)) _ (f .1) in
+    let h = both-true (every unusedSlot (drop (lay .active .len) (lay .active .states))) (every unusedStacked (drop (lay .queue .queued) (lay .queue .stacked))) (g .1) in
     record {
-      few = leb-true (lay .len) 64 (a .0);
-      short = leb-true (lay .queued) 16 (b .0);
+      few = leb-true (lay .active .len) 64 (a .0);
+      short = leb-true (lay .queue .queued) 16 (b .0);
       codes = c .0;
-      base = ltb-true (lay .«default_layer») (layersOf img) (d .0);
+      base = ltb-true (lay .active .«default_layer») (layersOf img) (d .0);
       ages = f .0;
       waits = g .0;
       slots = h .0;
@@ -134,9 +140,11 @@ all-are p z is [] h = refl
 all-are {A} p z is (a ∷ l) h = let b = both-true (p a) (every p l) h in rw (is a (b .0)) (ap (λ (x : List A). z ∷ x) (all-are p z is l (b .1)))
 
 -- a legal layout is in order in both its parts
-pub legal-fit : (img : List ℕ) (lay : Layout) → Legal img lay → length (lay .states) ≡ 64 → length (lay .stacked) ≡ 16 → Fit (partsOf lay)
-legal-fit img lay g e f =
-    record {
-      tidy = record { few = g .few; clean = padded 64 (lay .len) noSlot (lay .states) e (g .few) (all-are unusedSlot noSlot unused-slot (drop (lay .len) (lay .states)) (g .slots) ∙ rw (length-drop, e)) };
-      lined = record { few = g .short; clean = padded 16 (lay .queued) noStacked (lay .stacked) f (g .short) (all-are unusedStacked noStacked unused-stacked (drop (lay .queued) (lay .stacked)) (g .events) ∙ rw (length-drop, f)) };
-    }
+module _ (img : List ℕ) (lay : Layout) (g : Legal img lay) where
+  pub legal-tidy : length (lay .active .states) ≡ 64 → Tidy (lay .active)
+  legal-tidy e =
+      record { few = g .few; clean = padded 64 (lay .active .len) noSlot (lay .active .states) e (g .few) (all-are unusedSlot noSlot unused-slot (drop (lay .active .len) (lay .active .states)) (g .slots) ∙ rw (length-drop, e)) }
+
+  pub legal-lined : length (lay .queue .stacked) ≡ 16 → Lined (lay .queue)
+  legal-lined e =
+      record { few = g .short; clean = padded 16 (lay .queue .queued) noStacked (lay .queue .stacked) e (g .short) (all-are unusedStacked noStacked unused-stacked (drop (lay .queue .queued) (lay .queue .stacked)) (g .events) ∙ rw (length-drop, e)) }

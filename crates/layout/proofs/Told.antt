@@ -4,14 +4,13 @@ use mathlib.Core.Path.{_≡_, refl, ap, sym, _∙_}
 use mathlib.Core.Bool.{cond}
 use mathlib.Core.List.{List}
 use lib.Dec.{eqb}
-use Rattle.image.proofs.Said.{refusalOf, number-back, number-some}
-use Rattle.layout.specs.Calls.{toldOf}
-use Rattle.layout.specs.Replies.{Reply, handed, shown}
+use Rattle.refusal.proofs.Said.{refusalOf, number-back, number-some}
+use Rattle.layout.specs.Calls.{toldOf, Reply, handed, shown}
 use Rattle.layout.specs.declared.layout.Layout.{Layout}
-use Rattle.layout.specs.declared.layout.Answer.{Answer}
-use Rattle.layout.specs.declared.layout.Answer.the-variants as answer
-use Rattle.layout.specs.declared.layout.Answered.{Answered}
-use Rattle.layout.specs.declared.layout.Told.{Told}
+use Rattle.layout.specs.declared.answer.Answer.{Answer}
+use Rattle.layout.specs.declared.answer.Answer.the-variants as answer
+use Rattle.layout.specs.declared.answer.Answered.{Answered}
+use Rattle.layout.specs.declared.answer.Told.{Told}
 
 abbrev back : Told → Answer
 back t = cond (eqb (t .number) 0) (answer.Done (t .codes) (t .notes)) (answer.Refused (refusalOf (t .number)) (t .place))

@@ -6,7 +6,7 @@ use Rattle.layout.proofs.layout.Layout.new as N
 use Rattle.layout.proofs.layout.Layout.event as E
 use Rattle.layout.proofs.layout.Layout.tick as T
 use Rattle.layout.proofs.layout.Layout.keycodes as K
-use Rattle.layout.proofs.layout.Answer.told as A
+use Rattle.layout.proofs.answer.Answer.told as A
 
 pub new : Decides N.ended (λ M. N.spec) (λ M. N.clauses)
 new M 𝓤 H A m r = record { same = refl; free = λ κs a g. refl; only = λ κs a g g′ x x′ ws ws′. both 𝓤 _ _ _ (λ p q. (p ∙ sym q, refl)) }

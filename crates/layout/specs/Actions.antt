@@ -10,14 +10,13 @@ use Rattle.event.specs.declared.Coord.{Coord}
 use Rattle.event.specs.declared.Event.{Event}
 use Rattle.event.specs.declared.Event.the-variants.{Release, Press}
 use Rattle.image.specs.Tree.{Action, Actions, NoOp, Trans, KeyCode, MultipleKeyCodes, MultipleActions, Layer, DefaultLayer, HoldTap, end, _&_}
-use Rattle.layout.specs.Model.{Model, Idle, Waits, Begun, Decided, Done, ageOf, same, still, marked, after, withBase, withStates, withWaiting}
-use Rattle.layout.specs.declared.run.State.{State}
-use Rattle.layout.specs.declared.run.State.the-variants.{NormalKey, LayerModifier}
-use Rattle.layout.specs.declared.run.Way.{Way}
-use Rattle.layout.specs.declared.run.Way.the-variants.{Tap, Hold}
+use Rattle.layout.specs.Model.{Queued, Model, Idle, Waits, Begun, Decided, Done, ageOf, same, still, marked, after, withBase, withStates, withWaiting}
+use Rattle.layout.specs.declared.active.State.{State}
+use Rattle.layout.specs.declared.active.State.the-variants.{NormalKey, LayerModifier}
+use Rattle.layout.specs.declared.notes.Way.{Way}
+use Rattle.layout.specs.declared.notes.Way.the-variants.{Tap, Hold}
 use Rattle.layout.specs.declared.queue.Found.{Found}
 use Rattle.layout.specs.declared.queue.Found.the-variants.{None, At}
-use Rattle.layout.specs.declared.queue.Stacked.{Stacked}
 
 -- one state more, if there is room: Layout, first paragraph
 unfoldable pub push : State → Model → Done
@@ -34,7 +33,7 @@ isRelease c (Release i j) = same c (record { i = i; j = j })
 isRelease c (Press i j) = false
 
 -- the age of the first queued release of the coordinates
-unfoldable pub find : Coord → List Stacked → Found
+unfoldable pub find : Coord → List Queued → Found
 find c [] = None
 find c (q ∷ qs) = cond (isRelease c (q .event)) (At (ageOf q)) (find c qs)
 

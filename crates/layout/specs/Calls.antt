@@ -1,150 +1,93 @@
--- What each call answers: document 01, Layout, its last paragraph, and "Refusal numbers": the image's own refusals, then 13
--- State, then 12 Room. And how the layout is held: arrays with counts, whose unused places are zero.
+-- What each call hands back: document 01, Layout, its last paragraph, and "Refusal numbers": the image's own refusals, then 13
+-- State, then 12 Room. The contracts of `event`, `tick` and `keycodes` are these definitions, and the demands speak of runs of
+-- them.
 -- Assumes nothing.
 use Prim.Native.Nat.{ℕ}
-use mathlib.Core.Bool.{Bool, true, false, _&&_}
-use mathlib.Core.List.{List, [], _∷_, map}
-use lib.Dec.{eqb, leb, ltb}
-use lib.ListN.{length, take, drop}
-use Rattle.lists.specs.Lists.{every, laid}
-use Rattle.codes.specs.Codes.{legal}
+use mathlib.Core.List.{List}
+use lib.Dec.{leb}
+use lib.ListN.{length}
+use Rattle.lists.specs.Lists.{laid}
 use Rattle.refusal.specs.Number.{numberOf}
-use Rattle.refusal.specs.declared.Refusal.{Refusal}
+use Rattle.refusal.specs.Verdict.{rule, orElse}
 use Rattle.refusal.specs.declared.Refusal.the-variants as refusal
+use Rattle.refusal.specs.declared.Verdict.{Verdict}
+use Rattle.refusal.specs.declared.Verdict.the-variants as verdict
 use Rattle.event.specs.declared.Event.{Event}
-use Rattle.event.specs.declared.Event.the-variants.{Release, Press}
-use Rattle.image.specs.Words.{layersOf}
-use Rattle.image.specs.Tree.{Action, NoOp, Trans, KeyCode, MultipleKeyCodes, MultipleActions, Layer, DefaultLayer, HoldTap, tree}
 use Rattle.image.specs.Check.{checkOf}
+use Rattle.image.specs.Table.{tableOf}
 use Rattle.image.specs.declared.rules.Checked.{Checked}
 use Rattle.image.specs.declared.rules.Checked.the-variants as checked
-use Rattle.layout.specs.Model.{Model, Done, ageOf, same}
-use Rattle.layout.specs.Steps.{codes}
-use Rattle.layout.specs.Packed.{pad, noSlot, noStacked, waitingOf, waitingIn, noNotes, noted}
-use Rattle.layout.specs.declared.run.State.{State}
-use Rattle.layout.specs.declared.run.State.the-variants.{NormalKey, LayerModifier}
-use Rattle.layout.specs.declared.run.Slot.{Slot}
-use Rattle.layout.specs.declared.run.Waiting.{Waiting}
-use Rattle.layout.specs.declared.run.Waiting.the-variants as waiting
-use Rattle.layout.specs.declared.queue.Stacked.{Stacked}
+use Rattle.layout.specs.Model.{Model, Done, still}
+use Rattle.layout.specs.Steps.{codes, event, tick}
+use Rattle.layout.specs.Packed.{pack, unpack}
+use Rattle.layout.specs.State.{stateGood}
+use Rattle.layout.specs.Notes.{noNotes, noted}
 use Rattle.layout.specs.declared.layout.Layout.{Layout}
-use Rattle.layout.specs.declared.layout.Judged.{Judged}
-use Rattle.layout.specs.declared.layout.Judged.the-variants as judged
-use Rattle.layout.specs.declared.layout.Answer.{Answer}
-use Rattle.layout.specs.declared.layout.Answer.the-variants as answer
-use Rattle.layout.specs.declared.layout.Answered.{Answered}
-use Rattle.layout.specs.declared.layout.Told.{Told}
+use Rattle.layout.specs.declared.answer.Answer.{Answer}
+use Rattle.layout.specs.declared.answer.Answer.the-variants as answer
+use Rattle.layout.specs.declared.answer.Answered.{Answered}
+use Rattle.layout.specs.declared.answer.Told.{Told}
 
--- a layout's lists in their arrays, and back: what waits is looked up in the image
-abbrev pub pack : Model → Layout
-pack l =
-    record {
-      «default_layer» = l .base;
-      states = pad 64 noSlot (map (λ (s : State). record { state = s }) (l .states));
-      len = length (l .states);
-      waiting = waitingIn (l .waiting);
-      stacked = pad 16 noStacked (l .queue);
-      queued = length (l .queue);
-    }
+-- the refusal in the image check's answer
+abbrev pub verdictIn : Checked → Verdict
+verdictIn (checked.Accepted shape) = verdict.Fine
+verdictIn (checked.Refused r place) = verdict.Refused r place
 
-abbrev pub unpack : List ℕ → Layout → Model
-unpack img lay =
-    record {
-      base = lay .«default_layer»;
-      states = map (λ (s : Slot). s .state) (take (lay .len) (lay .states));
-      waiting = waitingOf img (lay .waiting);
-      queue = take (lay .queued) (lay .stacked);
-    }
-
--- State: the codes. A LayerModifier holds any word
-abbrev pub legalState : State → Bool
-legalState (NormalKey k c) = legal k
-legalState (LayerModifier v c) = true
-
-abbrev pub legalSlot : Slot → Bool
-legalSlot s = legalState (s .state)
-
--- State: the ages of the queue, from the oldest on
-unfoldable pub falling : List Stacked → Bool
-falling [] = true
-falling (q ∷ []) = true
-falling (q ∷ (next ∷ qs)) = leb (ageOf next) (ageOf q) && falling (next ∷ qs)
-
--- State: what waits. A number past the last record is no HoldTap, since its tree is NoOp
-abbrev pub mayWait : Action → ℕ → Bool
-mayWait NoOp left = false
-mayWait Trans left = false
-mayWait (KeyCode k) left = false
-mayWait (MultipleKeyCodes ks) left = false
-mayWait (MultipleActions actions) left = false
-mayWait (Layer v) left = false
-mayWait (DefaultLayer v) left = false
-mayWait (HoldTap i timeout hold tap) left = leb left timeout
-
-abbrev pub waitingGood : List ℕ → Waiting → Bool
-waitingGood img waiting.Nothing = true
-waitingGood img (waiting.On w) = mayWait (tree img (w .number)) (w .left)
-
--- State: the unused places
-abbrev pub unusedState : State → Bool
-unusedState (NormalKey k c) = eqb k 0 && same c (record { i = 0; j = 0 })
-unusedState (LayerModifier v c) = false
-
-abbrev pub unusedSlot : Slot → Bool
-unusedSlot s = unusedState (s .state)
-
-abbrev pub unusedEvent : Event → Bool
-unusedEvent (Release i j) = eqb i 0 && eqb j 0
-unusedEvent (Press i j) = false
-
-abbrev pub unusedStacked : Stacked → Bool
-unusedStacked s = eqb (s .since) 0 && unusedEvent (s .event)
-
--- State is not given
-unfoldable pub stateGood : List ℕ → Layout → Bool
-stateGood img lay =
-    leb (lay .len) 64
-    && (leb (lay .queued) 16
-    && (every legalSlot (take (lay .len) (lay .states))
-    && (ltb (lay .«default_layer») (layersOf img)
-    && (falling (take (lay .queued) (lay .stacked))
-    && (waitingGood img (lay .waiting)
-    && (every unusedSlot (drop (lay .len) (lay .states)) && every unusedStacked (drop (lay .queued) (lay .stacked))))))))
-
--- a rule: kept, the rest decides; broken, it is refused, at place 0
-unfoldable pub rule : Bool → Refusal → Judged → Judged
-rule true r rest = rest
-rule false r rest = judged.Refused r 0
-
--- State, then Room: a code buffer under 64 bytes. Where nothing is refused, the number of layers
-unfoldable pub judgedBy : Checked → List ℕ → Layout → ℕ → Judged
-judgedBy (checked.Accepted s) img lay room =
-    rule (stateGood img lay) refusal.State (rule (leb 64 room) refusal.Room (judged.Fine (s .layers)))
-judgedBy (checked.Refused r place) img lay room = judged.Refused r place
-
--- the image's own refusals first
-unfoldable pub judgedOf : List ℕ → Layout → ℕ → Judged
-judgedOf img lay room = judgedBy (checkOf img) img lay room
+-- the image's own refusals, then State, then Room: a code buffer under 64 bytes
+unfoldable pub judgedOf : List ℕ → Layout → ℕ → Verdict
+judgedOf img lay room =
+    orElse (verdictIn (checkOf img)) (rule (stateGood img lay) refusal.State 0 (rule (leb 64 room) refusal.Room 0 verdict.Fine))
 
 -- the answer of a call that did so: the number of its codes, the event acted on and the decisions made
-unfoldable pub answerOf : Judged → Done → Answer
-answerOf (judged.Fine layers) done = answer.Done (length (codes (done .layout .states))) (noted noNotes done)
-answerOf (judged.Refused r place) done = answer.Refused r place
+unfoldable pub answerOf : Verdict → Done → Answer
+answerOf verdict.Fine done = answer.Done (length (codes (done .layout .states))) (noted noNotes done)
+answerOf (verdict.Refused r place) done = answer.Refused r place
 
 -- the layout after it; a refused call leaves it as it was
-unfoldable pub layoutAfter : Judged → Done → Layout → Layout
-layoutAfter (judged.Fine layers) done lay = pack (done .layout)
-layoutAfter (judged.Refused r place) done lay = lay
-
-abbrev pub answered : Judged → Done → Layout → Answered
-answered j done lay = record { answer = answerOf j done; layout = layoutAfter j done lay }
+unfoldable pub layoutAfter : Verdict → Done → Layout → Layout
+layoutAfter verdict.Fine done lay = pack (done .layout)
+layoutAfter (verdict.Refused r place) done lay = lay
 
 -- the buffer after it: the codes in state order; bytes past them, and those of a refused call, are unchanged
-unfoldable pub buffered : Judged → Done → List ℕ → List ℕ
-buffered (judged.Fine layers) done buffer = laid (codes (done .layout .states)) buffer
-buffered (judged.Refused r place) done buffer = buffer
+unfoldable pub buffered : Verdict → Done → List ℕ → List ℕ
+buffered verdict.Fine done buffer = laid (codes (done .layout .states)) buffer
+buffered (verdict.Refused r place) done buffer = buffer
 
 -- the paper's number, place and values of an answer: a refused one has no codes, no event and no decisions
 abbrev pub toldOf : Answer → Told
 toldOf (answer.Done count notes) = record { number = 0; place = 0; codes = count; notes = notes }
 toldOf (answer.Refused r place) = record { number = numberOf r; place = place; codes = 0; notes = noNotes }
+
+-- the answer of a call that is refused, and of one that did nothing yet
+abbrev pub refusedAs : Verdict → Answer
+refusedAs verdict.Fine = answer.Done 0 noNotes
+refusedAs (verdict.Refused r place) = answer.Refused r place
+
+-- all that a call hands back: the number, the place and the values of its answer, the layout, and the buffer that it was lent
+pub record Reply : Type 0 where
+  pub told : Told
+  pub layout : Layout
+  pub buffer : List ℕ
+
+-- what the result of a call and its buffer at exit come to; of one that hands no layout on, the layout is the one it had
+abbrev pub handed : Answered → List ℕ → Reply
+handed r buffer = record { told = toldOf (r .answer); layout = r .layout; buffer = buffer }
+
+abbrev pub shown : Answer → Layout → List ℕ → Reply
+shown a layout buffer = record { told = toldOf a; layout = layout; buffer = buffer }
+
+-- the reply of a call by its step: over an image, on a layout, a buffer lent
+unfoldable pub replied : List ℕ → (Model → Done) → Layout → List ℕ → Reply
+replied image step layout buffer =
+    let j = judgedOf image layout (length buffer) in
+    let done = step (unpack image layout) in
+    record { told = toldOf (answerOf j done); layout = layoutAfter j done layout; buffer = buffered j done buffer }
+
+abbrev pub eventReply : List ℕ → Event → Layout → List ℕ → Reply
+eventReply image e layout buffer = replied image (event (tableOf image) e) layout buffer
+
+abbrev pub tickReply : List ℕ → Layout → List ℕ → Reply
+tickReply image layout buffer = replied image (tick (tableOf image)) layout buffer
+
+abbrev pub keycodesReply : List ℕ → Layout → List ℕ → Reply
+keycodesReply image layout buffer = let r = replied image still layout buffer in record { told = r .told; layout = layout; buffer = r .buffer }

@@ -1,56 +1,91 @@
--- What the private functions promise: how a run, a queue and the lists that they stand for go together.
+-- What the private functions promise: how the parts of a layout and the lists that they stand for go together.
 -- Assumes nothing.
 use mathlib.Core.Path.{_≡_}
 use mathlib.Core.List.{List}
-use Prim.Native.Nat.{ℕ, _≤_}
-use lib.ListN.{take}
-use Rattle.layout.specs.Model.{Model, Done}
-use Rattle.layout.specs.Packed.{pad, noSlot, noStacked, listIn, modelOf, noted}
-use Rattle.layout.specs.declared.run.Run.{Run}
+use Prim.Native.Nat.{ℕ, _-_, _≤_}
+use lib.ListN.{length, take}
+use Rattle.lists.specs.Lists.{laid}
+use Rattle.refusal.specs.declared.Verdict.the-variants.{Fine}
+use Rattle.event.specs.declared.Coord.{Coord}
+use Rattle.image.specs.Words.{layersOf}
+use Rattle.image.specs.Sound.{Sound}
+use Rattle.image.specs.Table.{tableOf, treeIn}
+use Rattle.image.specs.declared.record.Cell.{Cell}
+use Rattle.layout.specs.Model.{Queued, Model, Done, ageOf, withWaiting}
+use Rattle.layout.specs.Actions.{find}
+use Rattle.layout.specs.Steps.{codes, pressed, act, into, tickWait}
+use Rattle.layout.specs.Packed.{pad, noSlot, noStacked, statesIn, queuedOf, listIn, waitingOf, waitsAt, modelOf, unpack}
+use Rattle.layout.specs.Notes.{noted}
+use Rattle.layout.specs.Calls.{judgedOf}
+use Rattle.layout.specs.declared.active.Active.{Active}
+use Rattle.layout.specs.declared.active.WaitingState.{WaitingState}
+use Rattle.layout.specs.declared.active.Waiting.the-variants as waiting
+use Rattle.layout.specs.declared.notes.Notes.{Notes}
+use Rattle.layout.specs.declared.notes.Way.{Way}
 use Rattle.layout.specs.declared.queue.Stacked.{Stacked}
 use Rattle.layout.specs.declared.queue.Queue.{Queue}
+use Rattle.layout.specs.declared.action.Setting.{Setting}
+use Rattle.layout.specs.declared.effect.Progress.{Progress}
+use Rattle.layout.specs.declared.answer.Answer.the-variants as answer
+use Rattle.layout.specs.declared.answer.Answered.{Answered}
+use Rattle.layout.specs.declared.layout.Layout.{Layout}
+use Rattle.layout.specs.declared.layout.Judged.{Judged}
 
 -- the count is within the array, and the unused places are zero
-pub record Tidy (run : Run) : Type 0 where
-  pub few : run .len ≤ 64
-  pub clean : pad 64 noSlot (take (run .len) (run .states)) ≡ run .states
+pub record Tidy (active : Active) : Type 0 where
+  pub few : active .len ≤ 64
+  pub clean : pad 64 noSlot (take (active .len) (active .states)) ≡ active .states
 
 pub record Lined (queue : Queue) : Type 0 where
   pub few : queue .queued ≤ 16
   pub clean : pad 16 noStacked (take (queue .queued) (queue .stacked)) ≡ queue .stacked
 
--- one run comes from another by a step, where the queue is q
-pub record Ran (img : List ℕ) (start end : Run) (q : List Stacked) (done : Done) : Type 0 where
-  pub is : modelOf img end q ≡ done .layout
-  pub notes : end .notes ≡ noted (start .notes) done
+-- what a step may rely on: an accepted image, the number of its layers, and both parts in order
+pub record Ready (img : List ℕ) (n : ℕ) (active : Active) (queue : Queue) : Type 0 where
+  pub sound : Sound img
+  pub layers : n ≡ layersOf img
+  pub tidy : Tidy active
+  pub lined : Lined queue
 
--- one run comes from another by a step, whatever is queued
-pub record Does (img : List ℕ) (start end : Run) (step : Model → Done) : Type 0 where
+-- the active part comes from another, whatever is queued
+pub record Moves (img : List ℕ) (start end : Active) (move : Model → Model) : Type 0 where
   pub tidy : Tidy end
-  pub ran : (q : List Stacked) → Ran img start end q (step (modelOf img start q))
+  pub is : (q : List Queued) → modelOf img end q ≡ move (modelOf img start q)
 
--- the same, where the queue is q
-pub record Did (img : List ℕ) (start end : Run) (q : List Stacked) (done : Done) : Type 0 where
-  pub tidy : Tidy end
-  pub ran : Ran img start end q done
+-- a call with these notes has come by a step to an end, where the queue is q
+pub record Did (img : List ℕ) (before : Notes) (end : Progress) (q : List Queued) (done : Done) : Type 0 where
+  pub tidy : Tidy (end .active)
+  pub is : modelOf img (end .active) q ≡ done .layout
+  pub notes : end .notes ≡ noted before done
 
--- a layout in two parts: what running actions changes, and the queue
-pub record Parts : Type 0 where
-  pub run : Run
-  pub queue : Queue
+abbrev pub Steps : List ℕ → Active → Notes → Progress → Queue → (Model → Done) → Type 0
+Steps img active notes end queue step = Did img notes end (listIn queue) (step (modelOf img active (listIn queue)))
 
--- the layout that the two parts stand for
-abbrev pub layoutIn : List ℕ → Parts → Model
-layoutIn img parts = modelOf img (parts .run) (listIn (parts .queue))
+-- where what waits is decided
+abbrev pub settingOf : ℕ → Queue → Coord → Setting
+settingOf layers queue c = record { layers = layers; coord = c; delay = 0; found = find c (listIn queue) }
 
--- both parts come from others by a step
-pub record Went (img : List ℕ) (start end : Parts) (done : Done) : Type 0 where
-  pub tidy : Tidy (end .run)
-  pub lined : Lined (end .queue)
-  pub is : layoutIn img end ≡ done .layout
-  pub notes : end .run .notes ≡ noted (start .run .notes) done
+-- the record that a press runs
+abbrev pub PressedTo : List ℕ → Active → Coord → Cell → Type 0
+PressedTo img active c cell = (q : List Queued) → treeIn img cell ≡ pressed (tableOf img) c (modelOf img active q)
 
--- both parts are in order
-pub record Fit (parts : Parts) : Type 0 where
-  pub tidy : Tidy (parts .run)
-  pub lined : Lined (parts .queue)
+-- a queued event is acted on, with its age; what waits becomes tap or hold; and a tick of it
+abbrev pub unstacked : List ℕ → Stacked → Model → Done
+unstacked img s l = act (tableOf img) (s .event) (ageOf (queuedOf s)) l
+
+abbrev pub becomes : List ℕ → Way → WaitingState → Model → Done
+becomes img way w l = into way (tableOf img) (waitingOf img (waiting.On w)) l
+
+abbrev pub waitedOne : List ℕ → WaitingState → Model → Done
+waitedOne img w l = tickWait (tableOf img) (w .left - 1) (withWaiting (waitingOf img (waitsAt (w .coord) (w .left - 1) (w .number))) l)
+
+-- what a call judges, and how many layers it goes on with
+pub record JudgedSo (img : List ℕ) (lay : Layout) (room : ℕ) (judged : Judged) : Type 0 where
+  pub verdict : judged .verdict ≡ judgedOf img lay room
+  pub layers : judged .verdict ≡ Fine → judged .layers ≡ layersOf img
+
+-- the answer of a call that was not refused, and its buffer
+abbrev pub Handed : Progress → Queue → Answered → List ℕ → List ℕ → Type 0
+Handed end queue r buffer after =
+    let held = codes (statesIn (end .active)) in
+    (r ≡ record { answer = answer.Done (length held) (end .notes); layout = record { active = end .active; queue = queue } }) × (after ≡ laid held buffer)

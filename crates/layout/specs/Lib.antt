@@ -2,9 +2,11 @@ pub mod Model
 pub mod Actions
 pub mod Steps
 pub mod Packed
+pub mod State
+pub mod Notes
 pub mod Calls
 pub mod Reach
+pub mod Limits
+pub mod Asserted
 pub mod Inside
-pub mod Parts
-pub mod Turns
-pub mod Replies
+pub mod Effects

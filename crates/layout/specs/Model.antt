@@ -7,25 +7,29 @@ use lib.Dec.{eqb}
 use Rattle.event.specs.declared.Coord.{Coord}
 use Rattle.event.specs.declared.Event.{Event}
 use Rattle.image.specs.Tree.{Action}
-use Rattle.layout.specs.declared.run.State.{State}
-use Rattle.layout.specs.declared.run.Way.{Way}
-use Rattle.layout.specs.declared.queue.Stacked.{Stacked}
+use Rattle.layout.specs.declared.active.State.{State}
+use Rattle.layout.specs.declared.notes.Way.{Way}
 
 -- nothing, or a hold-tap: its coordinates, ticks left, record number, hold and tap
 pub data Waiting : Type 0 where
   Idle : Waiting
   Waits : Coord → ℕ → ℕ → Action → Action → Waiting
 
--- the default layer, the states held, what waits, and the queued events with their ages, the oldest first
+-- a queued event, and for how many ticks it has been
+pub record Queued : Type 0 where
+  pub event : Event
+  pub since : ℕ
+
+-- its age
+abbrev pub ageOf : Queued → ℕ
+ageOf q = q .since
+
+-- the default layer, the states held, what waits, and the queued events, the oldest first
 pub record Model : Type 0 where
   pub base : ℕ
   pub states : List State
   pub waiting : Waiting
-  pub queue : List Stacked
-
--- the age of a queued event
-abbrev pub ageOf : Stacked → ℕ
-ageOf q = q .since
+  pub queue : List Queued
 
 -- what a step did, in the order of happening: an event acted on, a hold-tap begun, a hold-tap decided
 pub data Mark : Type 0 where
@@ -68,5 +72,5 @@ withStates s l = record { base = l .base; states = s; waiting = l .waiting; queu
 abbrev pub withWaiting : Waiting → Model → Model
 withWaiting w l = record { base = l .base; states = l .states; waiting = w; queue = l .queue }
 
-abbrev pub withQueue : List Stacked → Model → Model
+abbrev pub withQueue : List Queued → Model → Model
 withQueue q l = record { base = l .base; states = l .states; waiting = l .waiting; queue = q }

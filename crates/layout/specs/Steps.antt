@@ -12,13 +12,12 @@ use Rattle.event.specs.declared.Event.{Event}
 use Rattle.event.specs.declared.Event.the-variants.{Release, Press}
 use Rattle.image.specs.Tree.{Action, NoOp, Trans, KeyCode, MultipleKeyCodes, MultipleActions, Layer, DefaultLayer, HoldTap}
 use Rattle.image.specs.Table.{Table}
-use Rattle.layout.specs.Model.{Model, Waiting, Idle, Waits, Acted, Done, ageOf, same, still, marked, after, withStates, withWaiting, withQueue}
+use Rattle.layout.specs.Model.{Queued, Model, Waiting, Idle, Waits, Acted, Done, ageOf, same, still, marked, after, withStates, withWaiting, withQueue}
 use Rattle.layout.specs.Actions.{isRelease, find, doAction, decided}
-use Rattle.layout.specs.declared.run.State.{State}
-use Rattle.layout.specs.declared.run.State.the-variants.{NormalKey, LayerModifier}
-use Rattle.layout.specs.declared.run.Way.{Way}
-use Rattle.layout.specs.declared.run.Way.the-variants.{Tap, Hold}
-use Rattle.layout.specs.declared.queue.Stacked.{Stacked}
+use Rattle.layout.specs.declared.active.State.{State}
+use Rattle.layout.specs.declared.active.State.the-variants.{NormalKey, LayerModifier}
+use Rattle.layout.specs.declared.notes.Way.{Way}
+use Rattle.layout.specs.declared.notes.Way.the-variants.{Tap, Hold}
 
 -- the held Layer numbers
 unfoldable pub held : List State → List ℕ
@@ -94,14 +93,14 @@ unfoldable pub released : Table → Event → Model → Done
 released T e l = cond (releases e (l .waiting)) (intoTap T (l .waiting) l) (still l)
 
 -- event, with a full queue: what waits, then the event that left
-unfoldable pub overflow : Table → Stacked → Model → Done
+unfoldable pub overflow : Table → Queued → Model → Done
 overflow T q l = let r = intoHold T (l .waiting) l in after r (act T (q .event) (ageOf q) (r .layout))
 
 -- event, its start: the new event stands last
-abbrev pub appended : Event → List Stacked → List Stacked
+abbrev pub appended : Event → List Queued → List Queued
 appended e q = q ++ (record { event = e; since = 0 } ∷ [])
 
-unfoldable pub entered : Table → Event → List Stacked → Model → Done
+unfoldable pub entered : Table → Event → List Queued → Model → Done
 entered T e [] l = still (withQueue (appended e []) l)
 entered T e (q ∷ qs) l =
     cond (ltb (length (q ∷ qs)) 16)
@@ -112,10 +111,10 @@ unfoldable pub event : Table → Event → Model → Done
 event T e l = let r = entered T e (l .queue) l in after r (released T e (r .layout))
 
 -- tick, its start: the ages
-abbrev pub olderOne : Stacked → Stacked
+abbrev pub olderOne : Queued → Queued
 olderOne q = record { event = q .event; since = min (ageOf q + 1) 65535 }
 
-abbrev pub older : List Stacked → List Stacked
+abbrev pub older : List Queued → List Queued
 older q = map olderOne q
 
 -- tick, where something waits with so many ticks left
@@ -124,7 +123,7 @@ tickWait T zero l = intoHold T (l .waiting) l
 tickWait T (suc k) l = still l
 
 -- tick, after the ages: what waits comes first, and the queue only where nothing waits
-unfoldable pub ticked : Table → Waiting → List Stacked → Model → Done
+unfoldable pub ticked : Table → Waiting → List Queued → Model → Done
 ticked T (Waits c left i hold tap) q l = tickWait T (left - 1) (withWaiting (Waits c (left - 1) i hold tap) (withQueue q l))
 ticked T Idle [] l = still (withQueue [] l)
 ticked T Idle (q ∷ qs) l = act T (q .event) (ageOf q) (withQueue qs l)

@@ -1,41 +1,33 @@
 // Running an action and deciding a hold-tap, which call each other: document 01, Layout. The record number falls. Nothing
 // here changes the queue: the first queued release of the key is looked up once, before, and handed along.
 // Assumes nothing.
+use super::active::Waiting;
+use super::effect::Effect;
+use super::effect::push_key;
+use super::effect::push_layer;
+use super::effect::wait_on;
+use super::effect::with_default;
 use super::layout::Layout;
+use super::notes::Way;
+use super::notes::note_decision;
 use super::queue::Found;
-use super::run::Waiting;
-use super::run::Way;
-use super::run::note_decision;
-use super::turn::Turn;
-use super::turn::push_key;
-use super::turn::push_layer;
-use super::turn::wait_on;
-use super::turn::with_default;
 use event::Coord;
 use image::Action;
 use image::Entry;
 use image::action_at;
 use image::entry_at;
 ghost use mathlib.Core.Path.{_≡_};
-ghost use Prim.Native.Nat.{ℕ, _+_, _-_, _≤_};
-ghost use mathlib.Core.Bool.{cond, true};
-ghost use mathlib.Core.List.{List};
+ghost use Prim.Native.Nat.{_-_};
+ghost use mathlib.Core.Bool.{cond};
+ghost use lib.Dec.{leb};
+ghost use Rattle.image.specs.Sound.{Sound};
 ghost use Rattle.layout.specs.Model as Model;
 ghost use Rattle.layout.specs.Model.{still, marked, withWaiting};
-ghost use lib.Dec.{leb};
-ghost use Rattle.codes.specs.Codes.{legal};
-ghost use Rattle.image.specs.Words.{entries, entriesOf};
-ghost use Rattle.lists.specs.Lists.{every};
-ghost use Rattle.image.specs.Tree.{tree};
-ghost use Rattle.image.specs.Sound.{Sound};
-ghost use Rattle.layout.specs.Actions.{pushCodes, doAction, decided};
-ghost use Rattle.layout.specs.Packed.{holdOf, tapOf};
-ghost use Rattle.event.specs.declared.Coord.{Coord as At};
-ghost use Rattle.layout.specs.Turns.{Roomy, Turned};
+ghost use Rattle.layout.specs.Effects.{Roomy, Leaves, Listed, CodesPushed, ActionRan, Settled};
 
 // Where and how an action runs: in a table of so many layers, at the coordinates of its key, with its delay, and with the
 // first queued release of them.
-pub struct Press {
+pub(crate) struct Setting {
     pub layers: usize,
     pub coord: Coord,
     pub delay: u16,
@@ -43,7 +35,7 @@ pub struct Press {
 }
 
 // A queued release decides: tap if timeout >= delay - age, else hold.
-fn tie(timeout: u16, delay: u16, since: u16) -> Way
+fn queued_way(timeout: u16, delay: u16, since: u16) -> Way
     ensures { λ r. ⌜ r ≡ cond (leb (delay - since) timeout) Way.Tap Way.Hold ⌝ }
 {
     if (delay as u32) <= (timeout as u32) + (since as u32) {
@@ -63,14 +55,14 @@ pub(crate) fn less(timeout: u16, delay: u16) -> u16
 }
 
 // What waits is decided: it waits no more, and the decision is noted.
-fn settle(turn: Turn, coord: Coord, way: Way) -> Turn
-    ensures { λ r. ⌜ ((img : List ℕ) (c : At) (a : List ℕ) → Roomy turn a → Turned img c turn r a a (λ l. marked (Model.Decided coord way) (still (withWaiting Model.Idle l)))) ⌝ }
+fn settle(effect: Effect, coord: Coord, way: Way) -> Effect
+    ensures { λ r. ⌜ Leaves effect r (λ img l. marked (Model.Decided coord way) (still (withWaiting Model.Idle l))) ⌝ }
 {
-    let notes = note_decision(turn.notes, coord, way);
-    Turn {
-        default_layer: turn.default_layer,
-        held: turn.held,
-        added: turn.added,
+    let notes = note_decision(effect.notes, coord, way);
+    Effect {
+        default_layer: effect.default_layer,
+        held: effect.held,
+        added: effect.added,
         waiting: Waiting::Nothing,
         notes,
     }
@@ -79,17 +71,17 @@ fn settle(turn: Turn, coord: Coord, way: Way) -> Turn
 // The codes of a MultipleKeyCodes, one after the other.
 fn push_codes(
     image: &[u8],
-    turn: Turn,
+    effect: Effect,
     first: u16,
     count: u16,
     added: &mut [u32; Layout::STATES],
-) -> Turn
-    requires { ⌜ Roomy turn (now added) × (every legal (entries (now image) first count) ≡ true) × (first + count ≤ entriesOf (now image)) ⌝ }
-    ensures { λ r. ⌜ ((c : At) → Turned (now (image .entry)) c turn r (now (added .entry)) (now (added .exit)) (pushCodes (entries (now (image .entry)) first count) c)) ⌝ }
+) -> Effect
+    requires { ⌜ Roomy effect (now added) × Listed (now image) first count ⌝ }
+    ensures { λ r. ⌜ CodesPushed (now (image .entry)) first count effect r (now (added .entry)) (now (added .exit)) ⌝ }
 {
     let mut at = first as usize;
     let mut left = count;
-    let mut out = turn;
+    let mut out = effect;
     while 0 < left {
         let Entry::Word(code) = entry_at(image, at) else {
             return out;
@@ -104,70 +96,70 @@ fn push_codes(
 // A hold-tap is decided: it waits no more, and its hold or its tap runs with delay 0.
 pub(crate) fn decide(
     image: &[u8],
-    turn: Turn,
+    effect: Effect,
     n: u16,
-    press: Press,
+    setting: Setting,
     way: Way,
     added: &mut [u32; Layout::STATES],
-) -> Turn
-    requires { ⌜ Sound (now image) × Roomy turn (now added) ⌝ }
-    ensures { λ r. ⌜ Turned (now (image .entry)) (press .coord) turn r (now (added .entry)) (now (added .exit)) (decided way (holdOf (tree (now (image .entry)) n)) (tapOf (tree (now (image .entry)) n)) (press .layers) (press .coord) (press .found)) ⌝ }
+) -> Effect
+    requires { ⌜ Sound (now image) × Roomy effect (now added) ⌝ }
+    ensures { λ r. ⌜ Settled (now (image .entry)) n setting way effect r (now (added .entry)) (now (added .exit)) ⌝ }
 {
-    let coord = press.coord;
-    let quiet = settle(turn, coord, way);
-    let mut now = press;
-    now.delay = 0;
+    let coord = setting.coord;
+    let quiet = settle(effect, coord, way);
+    let mut at_once = setting;
+    at_once.delay = 0;
     let Action::HoldTap(_, hold, tap) = action_at(image, n as usize) else {
         return quiet;
     };
     match way {
-        Way::Tap => do_action(image, quiet, tap, now, added),
-        Way::Hold => do_action(image, quiet, hold, now, added),
+        Way::Tap => do_action(image, quiet, tap, at_once, added),
+        Way::Hold => do_action(image, quiet, hold, at_once, added),
     }
 }
 
 // Runs record n.
 pub(crate) fn do_action(
     image: &[u8],
-    turn: Turn,
+    effect: Effect,
     n: u16,
-    press: Press,
+    setting: Setting,
     added: &mut [u32; Layout::STATES],
-) -> Turn
-    requires { ⌜ Sound (now image) × Roomy turn (now added) ⌝ }
-    ensures { λ r. ⌜ Turned (now (image .entry)) (press .coord) turn r (now (added .entry)) (now (added .exit)) (doAction (tree (now (image .entry)) n) (press .layers) (press .coord) (press .delay) (press .found)) ⌝ }
+) -> Effect
+    requires { ⌜ Sound (now image) × Roomy effect (now added) ⌝ }
+    ensures { λ r. ⌜ ActionRan (now (image .entry)) n setting effect r (now (added .entry)) (now (added .exit)) ⌝ }
 {
-    let coord = press.coord;
-    let found = press.found;
+    let coord = setting.coord;
+    let found = setting.found;
     match action_at(image, n as usize) {
-        Action::NoOp => turn,
-        Action::Trans => turn,
-        Action::KeyCode(code) => push_key(turn, code, added),
-        Action::MultipleKeyCodes(first, count) => push_codes(image, turn, first, count, added),
+        Action::NoOp => effect,
+        Action::Trans => effect,
+        Action::KeyCode(code) => push_key(effect, code, added),
+        Action::MultipleKeyCodes(first, count) => push_codes(image, effect, first, count, added),
         Action::MultipleActions(first, count) => {
             let mut at = first as usize;
             let mut left = count;
-            let mut out = turn;
+            let mut out = effect;
             while 0 < left {
                 let Entry::Word(k) = entry_at(image, at) else {
                     return out;
                 };
-                out = do_action(image, out, k, press, added);
+                out = do_action(image, out, k, setting, added);
                 at += 1;
                 left -= 1;
             }
             out
         }
-        Action::Layer(value) => push_layer(turn, value, added),
-        Action::DefaultLayer(value) => with_default(turn, press.layers, value),
+        Action::Layer(value) => push_layer(effect, value, added),
+        Action::DefaultLayer(value) => with_default(effect, setting.layers, value),
         Action::HoldTap(timeout, _, _) => match found {
-            Found::None => wait_on(turn, coord, less(timeout, press.delay), n),
+            Found::None => wait_on(effect, coord, less(timeout, setting.delay), n),
             Found::At(since) => decide(
                 image,
-                turn,
+                effect,
                 n,
-                press,
-                tie(timeout, press.delay, since),
+                setting,
+                queued_way(timeout, setting.delay, since),
                 added,
             ),
         },

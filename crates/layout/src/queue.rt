@@ -1,7 +1,7 @@
 // The queued events with their ages, the oldest first. Document 01, Layout.
 // Assumes nothing.
+use super::active::is_same;
 use super::layout::Layout;
-use super::run::is_same;
 use event::Coord;
 use event::Event;
 ghost use mathlib.Core.Path.{_≡_};
@@ -9,7 +9,7 @@ ghost use Prim.Native.Nat.{_<_};
 ghost use lib.ListN.{drop};
 ghost use Rattle.layout.specs.Actions.{isRelease, find};
 ghost use Rattle.layout.specs.Steps.{olderOne, older, appended};
-ghost use Rattle.layout.specs.Packed.{listIn};
+ghost use Rattle.layout.specs.Packed.{listIn, queuedOf};
 ghost use Rattle.layout.specs.Inside.{Lined};
 
 pub struct Stacked {
@@ -30,7 +30,7 @@ pub enum Found {
 
 // One tick older, stopping at 65,535.
 fn one_older(s: Stacked) -> Stacked
-    ensures { λ r. ⌜ r ≡ olderOne s ⌝ }
+    ensures { λ r. ⌜ queuedOf r ≡ olderOne (queuedOf s) ⌝ }
 {
     let t = s.since;
     if t < 65535 {

@@ -1,12 +1,12 @@
 // The State check of a layout: document 01, "Refusal numbers", 13.
 // Assumes nothing.
+use super::active::Active;
+use super::active::State;
+use super::active::Waiting;
+use super::active::is_same;
 use super::layout::Layout;
 use super::queue::Queue;
 use super::queue::Stacked;
-use super::run::Run;
-use super::run::State;
-use super::run::Waiting;
-use super::run::is_same;
 use codes::KeyCode;
 use event::Coord;
 use event::Event;
@@ -18,8 +18,8 @@ ghost use lib.ListN.{take, drop};
 ghost use Rattle.lists.specs.Lists.{every};
 ghost use Rattle.image.specs.Words.{layersOf};
 ghost use Rattle.image.specs.Sound.{Sound};
-ghost use Rattle.layout.specs.Calls.{legalState, legalSlot, falling, waitingGood, unusedState, unusedSlot, unusedStacked, stateGood};
-ghost use Rattle.layout.specs.Parts.{layoutOf};
+ghost use Rattle.layout.specs.Packed.{listIn};
+ghost use Rattle.layout.specs.State.{legalState, legalSlot, falling, waitingGood, unusedState, unusedSlot, unusedStacked, stateGood};
 
 fn is_legal_state(state: State) -> bool
     ensures { λ r. ⌜ r ≡ legalState state ⌝ }
@@ -57,14 +57,14 @@ fn is_unused_event(stacked: Stacked) -> bool
     }
 }
 
-fn states_legal(run: Run) -> bool
-    requires { ⌜ run .len ≤ 64 ⌝ }
-    ensures { λ r. ⌜ r ≡ every legalSlot (take (run .len) (run .states)) ⌝ }
+fn states_legal(active: Active) -> bool
+    requires { ⌜ active .len ≤ 64 ⌝ }
+    ensures { λ r. ⌜ r ≡ every legalSlot (take (active .len) (active .states)) ⌝ }
 {
-    let n = run.len;
+    let n = active.len;
     let mut i: usize = 0;
     while i < n {
-        let slot = run.states[i];
+        let slot = active.states[i];
         let state = slot.state;
         if !is_legal_state(state) {
             return false;
@@ -74,12 +74,12 @@ fn states_legal(run: Run) -> bool
     true
 }
 
-fn states_unused(run: Run) -> bool
-    ensures { λ r. ⌜ r ≡ every unusedSlot (drop (run .len) (run .states)) ⌝ }
+fn states_unused(active: Active) -> bool
+    ensures { λ r. ⌜ r ≡ every unusedSlot (drop (active .len) (active .states)) ⌝ }
 {
-    let mut i = run.len;
+    let mut i = active.len;
     while i < Layout::STATES {
-        let slot = run.states[i];
+        let slot = active.states[i];
         let state = slot.state;
         if !is_unused_state(state) {
             return false;
@@ -92,7 +92,7 @@ fn states_unused(run: Run) -> bool
 // No queued age is above the one in front of it.
 fn ages_fall(queue: Queue) -> bool
     requires { ⌜ queue .queued ≤ 16 ⌝ }
-    ensures { λ r. ⌜ r ≡ falling (take (queue .queued) (queue .stacked)) ⌝ }
+    ensures { λ r. ⌜ r ≡ falling (listIn queue) ⌝ }
 {
     let n = queue.queued;
     let mut i: usize = 0;
@@ -136,28 +136,28 @@ fn waiting_good(image: &[u8], waiting: Waiting) -> bool
 }
 
 // Whether no part of a layout breaks its rule, under an accepted image of so many layers.
-pub(crate) fn state_good(image: &[u8], layers: usize, run: Run, queue: Queue) -> bool
+pub(crate) fn state_good(image: &[u8], layers: usize, active: Active, queue: Queue) -> bool
     requires { ⌜ Sound (now image) × (layers ≡ layersOf (now image)) ⌝ }
-    ensures { λ r. ⌜ r ≡ stateGood (now (image .entry)) (layoutOf (record { run = run; queue = queue })) ⌝ }
+    ensures { λ r. ⌜ r ≡ stateGood (now (image .entry)) (record { active = active; queue = queue }) ⌝ }
 {
-    if Layout::STATES < run.len {
+    if Layout::STATES < active.len {
         return false;
     }
     if Layout::QUEUE < queue.queued {
         return false;
     }
-    if !states_legal(run) {
+    if !states_legal(active) {
         return false;
     }
-    if layers <= run.default_layer {
+    if layers <= active.default_layer {
         return false;
     }
     if !ages_fall(queue) {
         return false;
     }
-    let waiting = run.waiting;
+    let waiting = active.waiting;
     if !waiting_good(image, waiting) {
         return false;
     }
-    states_unused(run) && events_unused(queue)
+    states_unused(active) && events_unused(queue)
 }

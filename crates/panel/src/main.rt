@@ -1,4 +1,4 @@
 // The program of document 01, Bench cases; here run on its image Z and its five lines. Assumes nothing.
 fn main() {
-    panelio::run();
+    panel_body::run();
 }

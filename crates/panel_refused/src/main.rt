@@ -1,4 +1,4 @@
 // `panel` on a table that the check refuses: the refusal alone, and no line answered. Assumes nothing.
 fn main() {
-    panelio::run();
+    panel_body::run();
 }

@@ -67,7 +67,7 @@ verdict-back : {A : Type 0} (v : Verdict) (a : A) → verdictBack (said v a) ≡
 verdict-back Fine a = refl
 verdict-back (Refused r p) a = refused-back (λ v. Fine) Refused r p a
 
-values-back : {A : Type 0} (v : Verdict) (a : A) → said v a .values ≡ a
+pub values-back : {A : Type 0} (v : Verdict) (a : A) → said v a .values ≡ a
 values-back Fine a = refl
 values-back (Refused r p) a = refl
 

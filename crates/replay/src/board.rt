@@ -9,8 +9,8 @@ use codes::KbHidReport;
 use keyboard::Clocked;
 use keyboard::Keyboard;
 use keyboard::through;
-use talk::Text;
-use talk::front;
+use text::Text;
+use text::front;
 
 pub struct Done {
     pub keyboard: Keyboard,
@@ -134,16 +134,19 @@ fn more(due: usize, yes: bool) -> usize {
 
 // So many clock calls.
 fn clocks(keyboard: Keyboard, n: usize) -> Run {
-    let mut now = keyboard;
+    let mut last = keyboard;
     let mut due: usize = 0;
     let mut i = 0;
     while i < n {
-        let done = clocked(now, i);
-        now = done.keyboard;
+        let done = clocked(last, i);
+        last = done.keyboard;
         due = more(due, done.due);
         i += 1;
     }
-    Run { due, keyboard: now }
+    Run {
+        due,
+        keyboard: last,
+    }
 }
 
 // `clock N`: N clock calls, how many were due, and the count after them.

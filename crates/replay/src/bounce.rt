@@ -7,10 +7,10 @@ use super::words::Bytes;
 use debounce::Debouncer;
 use debounce::Telling;
 use debounce::Update;
-use debounce::Verdict;
 use refusal::Refusal;
-use talk::Text;
-use talk::front;
+use refusal::Verdict;
+use text::Text;
+use text::front;
 
 pub struct Done {
     pub debouncer: Debouncer,
@@ -43,10 +43,11 @@ fn make(of: [usize; 8], picture: Bytes, debouncer: Debouncer) -> Done {
     let start = front(&bytes, picture.len);
     let made = Debouncer::new(of[1], of[2], words::low_word(of[3]), start);
     let verdict = made.verdict;
+    let told = verdict.told();
     let after = made.debouncer;
     Done {
         debouncer: after,
-        text: say::number(b"made ", words::wide(verdict.number())),
+        text: say::number(b"made ", words::wide(told.number)),
     }
 }
 
@@ -141,7 +142,7 @@ fn picture(debouncer: Debouncer) -> Text {
     let places = got.picture;
     match verdict {
         Verdict::Fine => digits(places),
-        Verdict::Refused(refusal) => refused(refusal),
+        Verdict::Refused(refusal, _) => refused(refusal),
     }
 }
 

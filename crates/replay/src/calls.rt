@@ -11,8 +11,8 @@ use layout::Layout;
 use layout::Notes;
 use layout::Told;
 use layout::Way;
-use talk::Text;
-use talk::front;
+use text::Text;
+use text::front;
 
 pub struct Done {
     pub layout: Layout,

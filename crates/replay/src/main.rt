@@ -17,15 +17,15 @@ use commands::Call;
 use commands::Command;
 use commands::Part;
 use commands::Table;
+use console::write_line;
 use debounce::Debouncer;
 use keyboard::Keyboard;
 use layout::Layout;
 use libc::STDIN_FILENO;
-use libc::STDOUT_FILENO;
-use talk::Place;
-use talk::Text;
-use talk::front;
-use talk::gather;
+use text::Place;
+use text::Text;
+use text::front;
+use text::gather;
 use words::Bytes;
 
 // How much one read brings, and the longest line.
@@ -175,23 +175,12 @@ fn answer(line: &[u8], table: &mut [u8; table::ROOM], desk: Desk) -> Done {
     }
 }
 
-// Writes a line. Where that fails there is nobody to tell.
-fn write(text: Text) {
-    let whole = text.put(b'\n');
-    let bytes = whole.bytes;
-    io::write_all(STDOUT_FILENO, front(&bytes, whole.len));
-}
-
-// One read of standard input. A read that fails is the end of it.
-fn refill(input: &mut [u8; INPUT], place: Place) -> Place {
-    let got = libc::read(STDIN_FILENO, input);
-    place.filled(io::count(got, input))
-}
-
-// A part of a line, up to its end if that is here; or a read, where all that was here is taken.
+// A part of a line, up to its end if that is here; or a read, where all that was here is taken. A read that fails is the end
+// of the input.
 fn advance(input: &mut [u8; INPUT], line: &mut [u8; LINE], place: Place) -> Place {
     if place.end <= place.at {
-        return refill(input, place);
+        let got = libc::read(STDIN_FILENO, input);
+        return place.filled(io::count(got, input));
     }
     gather(input, line, place)
 }
@@ -200,7 +189,7 @@ fn advance(input: &mut [u8; INPUT], line: &mut [u8; LINE], place: Place) -> Plac
 fn reply(line: &[u8; LINE], held: usize, table: &mut [u8; table::ROOM], desk: Desk) -> Desk {
     let done = answer(front(line, held), table, desk);
     let text = done.text;
-    write(text);
+    write_line(text);
     done.desk
 }
 
@@ -209,10 +198,10 @@ fn step(
     input: &mut [u8; INPUT],
     line: &mut [u8; LINE],
     table: &mut [u8; table::ROOM],
-    now: Stand,
+    stand: Stand,
 ) -> Stand {
-    let desk = now.desk;
-    let before = now.place;
+    let desk = stand.desk;
+    let before = stand.place;
     let place = advance(input, line, before);
     if !place.ended {
         return Stand { desk, place };
@@ -226,15 +215,15 @@ fn step(
 // Answers lines to the end of the input. Nothing says that it has one, so the loop counts its turns down from a number
 // that no run uses up.
 fn run(input: &mut [u8; INPUT], line: &mut [u8; LINE], table: &mut [u8; table::ROOM]) {
-    let mut now = Stand {
+    let mut stand = Stand {
         desk: start(),
         place: Place::start(),
     };
     let mut turns = u64::MAX;
     let mut over = false;
     while turns > 0 && !over {
-        now = step(input, line, table, now);
-        let place = now.place;
+        stand = step(input, line, table, stand);
+        let place = stand.place;
         over = place.over;
         turns -= 1;
     }

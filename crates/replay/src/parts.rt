@@ -4,6 +4,7 @@ use super::commands::Part;
 use super::words;
 use event::Coord;
 use event::Event;
+use layout::Active;
 use layout::Layout;
 use layout::Slot;
 use layout::Stacked;
@@ -18,28 +19,34 @@ fn coord_of(i: usize, j: usize) -> Coord {
     }
 }
 
+fn with_active(layout: Layout, active: Active) -> Layout {
+    let queue = layout.queue;
+    Layout { active, queue }
+}
+
 // `default N`
 fn with_default(layout: Layout, n: usize) -> Layout {
-    let mut out = layout;
-    out.default_layer = n;
-    out
+    let mut active = layout.active;
+    active.default_layer = n;
+    with_active(layout, active)
 }
 
 // `counts STATES QUEUED`
 fn with_counts(layout: Layout, states: usize, queued: usize) -> Layout {
-    let mut out = layout;
-    out.len = states;
-    out.queued = queued;
-    out
+    let mut active = layout.active;
+    active.len = states;
+    let mut queue = layout.queue;
+    queue.queued = queued;
+    Layout { active, queue }
 }
 
 // `state K key CODE I J`, `state K layer N I J`
 fn with_state(layout: Layout, k: usize, state: State) -> Layout {
-    let mut out = layout;
+    let mut active = layout.active;
     if k < Layout::STATES {
-        out.states[k] = Slot { state };
+        active.states[k] = Slot { state };
     }
-    out
+    with_active(layout, active)
 }
 
 fn key_of(of: [usize; 8]) -> State {
@@ -58,11 +65,12 @@ fn layer_of(of: [usize; 8]) -> State {
 
 // `queue K p I J AGE`, `queue K r I J AGE`
 fn with_queued(layout: Layout, k: usize, event: Event, since: u16) -> Layout {
-    let mut out = layout;
+    let active = layout.active;
+    let mut queue = layout.queue;
     if k < Layout::QUEUE {
-        out.stacked[k] = Stacked { event, since };
+        queue.stacked[k] = Stacked { event, since };
     }
-    out
+    Layout { active, queue }
 }
 
 fn event_of(press: bool, i: u8, j: u8) -> Event {
@@ -79,16 +87,15 @@ fn queued(press: bool, of: [usize; 8], layout: Layout) -> Layout {
 
 // `wait I J LEFT RECORD`, `idle`
 fn with_waiting(layout: Layout, waiting: Waiting) -> Layout {
-    let states = layout.states;
-    let stacked = layout.stacked;
-    Layout {
-        default_layer: layout.default_layer,
+    let active = layout.active;
+    let states = active.states;
+    let other = Active {
+        default_layer: active.default_layer,
         states,
-        len: layout.len,
+        len: active.len,
         waiting,
-        stacked,
-        queued: layout.queued,
-    }
+    };
+    with_active(layout, other)
 }
 
 fn waiting_of(of: [usize; 8]) -> Waiting {

@@ -1,17 +1,14 @@
 // Answers that more than one line gives, and what a lent buffer is filled with before a call, so that a byte which the call
 // must not write shows. Assumes nothing.
 use super::words;
-use talk::Text;
+use text::Text;
+pub use text::refused;
+pub use text::unread;
 
 pub const FILL: u8 = 0xEE;
 
 pub fn text(said: &[u8]) -> Text {
     Text::new().put_all(said)
-}
-
-// A line that cannot be read.
-pub fn unread() -> Text {
-    Text::new().put(b'?')
 }
 
 pub fn flag(said: &[u8], yes: bool) -> Text {
@@ -20,13 +17,6 @@ pub fn flag(said: &[u8], yes: bool) -> Text {
 
 pub fn number(said: &[u8], n: usize) -> Text {
     text(said).put_number(n)
-}
-
-// A refusal's number and place.
-pub fn refused(number: u8, place: usize) -> Text {
-    text(b"refused ").put_number(words::wide(number))
-        .put(b' ')
-        .put_number(place)
 }
 
 // Bytes in hex, `-` for none.

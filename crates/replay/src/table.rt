@@ -4,8 +4,8 @@ use super::words::Bytes;
 use codes::KbHidReport;
 use image::Checked;
 use image::Source;
-use talk::Text;
-use talk::front;
+use text::Text;
+use text::front;
 
 // The bytes of the image that stands: the largest has fewer than half of this.
 pub const ROOM: usize = 16384;

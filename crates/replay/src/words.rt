@@ -1,5 +1,7 @@
 // The words of a script's line, parted by single spaces, and what they say: numbers, bytes in hex, a picture.
 // Everything is read strictly (docs/REPLAY.md). Assumes nothing.
+use number::Number;
+use number::decimal_within;
 ghost use Prim.Native.Nat.{_≤_};
 ghost use mathlib.Core.Path.{_≡_};
 ghost use lib.ListN.{length};
@@ -187,34 +189,8 @@ pub fn picture_at(line: &[u8], k: usize) -> Bytes {
     read_picture(word)
 }
 
-// A decimal number of one to five digits, up to 65,535; past that where the word is none.
-fn number(word: &[u8]) -> usize {
-    if word.len() == 0 || 5 < word.len() {
-        return 65536;
-    }
-    let mut n: usize = 0;
-    let mut i = 0;
-    while i < word.len() {
-        n = with_digit(n, word[i]);
-        i += 1;
-    }
-    n
-}
-
-fn with_digit(n: usize, c: u8) -> usize {
-    let d = digit(c);
-    if 9 < d {
-        return 65536;
-    }
-    if 6553 < n {
-        return 65536;
-    }
-    let more = n * 10 + wide(d);
-    if 65535 < more { 65536 } else { more }
-}
-
 // The largest number of a kind: a byte, the place of a state and of a queued event; else any.
-fn largest(kind: u8) -> usize {
+fn largest(kind: u8) -> u16 {
     match kind {
         b'b' => 255,
         b's' => 63,
@@ -223,12 +199,13 @@ fn largest(kind: u8) -> usize {
     }
 }
 
+// A decimal number of one to five digits, of a byte one to three; past 65,535 where the word is none, or is too large.
 fn number_as(kind: u8, word: &[u8]) -> usize {
-    if kind == b'b' && 3 < word.len() {
+    let digits = if kind == b'b' { 3 } else { 5 };
+    let Number::Value(n) = decimal_within(word, digits, largest(kind)) else {
         return 65536;
-    }
-    let n = number(word);
-    if largest(kind) < n { 65536 } else { n }
+    };
+    n as usize
 }
 
 // 0 for the word that it must be.

@@ -5,10 +5,10 @@ use Rattle.replay.proofs.run.Statement.{statement}
 use Rattle.replay.proofs.run.Tie as tie
 
 abbrev Inv-loop : tie.InvT-loop
-Inv-loop input₀ line₀ table₀ now₀ turns₀ over₀ input line table now turns over = 0 ≤ turns
+Inv-loop input₀ line₀ table₀ stand₀ turns₀ over₀ input line table stand turns over = 0 ≤ turns
 
 abbrev μ-loop : tie.MeasureT-loop
-μ-loop input₀ line₀ table₀ now₀ turns₀ over₀ input line table now turns over = turns
+μ-loop input₀ line₀ table₀ stand₀ turns₀ over₀ input line table stand turns over = turns
 
 pub run-spec : {M : Type 1} → statement M
 run-spec =

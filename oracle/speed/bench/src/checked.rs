@@ -48,7 +48,16 @@ fn pairs() -> Vec<u8> {
     full(vec![[0; 4], [4, 0, 1, 0]], [4, 1, 31, 0], &list)
 }
 
-fn eight() -> Vec<(&'static str, Vec<u8>)> {
+/// Record 0 is an empty MultipleActions, records 1 to 12 each name the one before; each later one names record 12 four times
+/// and record 10 once, which is as much as the weight allows.
+fn ropes() -> Vec<u8> {
+    let mut records = chain(13);
+    records[0] = [4, 0, 0, 0];
+    let list = [&(0..12).collect::<Vec<usize>>()[..], &[12, 12, 12, 12, 10]].concat();
+    full(records, [4, 12, 5, 0], &list)
+}
+
+fn single() -> Vec<(&'static str, Vec<u8>)> {
     let empty = [4, 0, 0, 0];
     let of_63 = [4, 0, 63, 0];
     vec![
@@ -80,6 +89,10 @@ fn eight() -> Vec<(&'static str, Vec<u8>)> {
         (
             "largest: 254 MultipleActions that each name 31 times one that names a NoOp",
             pairs(),
+        ),
+        (
+            "largest: 243 MultipleActions that each name four times a chain of thirteen, and once its eleventh",
+            ropes(),
         ),
     ]
 }
@@ -150,7 +163,7 @@ fn case(part: &'static str, name: &str, size: Option<usize>, table: Vec<u8>) -> 
 }
 
 pub fn cases() -> Vec<Case> {
-    let given = eight().into_iter();
+    let given = single().into_iter();
     let given = given.map(|(name, table)| case("image", name, None, table));
     let parts = [
         ("cells", of_cells()),

@@ -1,14 +1,14 @@
 -- `debounce::Debouncer::events` meets its contract, in each case of the verdict. Assumes nothing.
 use borrow.Author.Needs.{needs}
-use mathlib.Core.Path.{_≡_, refl, sym, _∙_}
+use mathlib.Core.Path.{_≡_, sym, _∙_}
 use lib.ListN.{length}
 use Rattle.debounce.specs.Picture.{padded}
-use Rattle.debounce.specs.Calls.{eventsVerdict, told, eventsOf, buffered}
-use Rattle.debounce.specs.declared.Verdict.the-variants.{Fine}
+use Rattle.debounce.specs.Calls.{eventsVerdict, ifFine, eventsOf}
+use Rattle.refusal.specs.declared.Verdict.the-variants.{Fine}
 use Rattle.debounce.proofs.Laws.{pad-fits}
-use Rattle.debounce.proofs.States.{events-fine}
-use Rattle.debounce.proofs.pad.Reads as pad
-use Rattle.debounce.proofs.tell_step.Reads as tell-step
+use Rattle.debounce.proofs.States.{events-fine, events-place}
+use Rattle.debounce.proofs.picture.pad.Reads as pad
+use Rattle.debounce.proofs.events.tell_step.Reads as tell-step
 use Rattle.debounce.proofs.Debouncer.step.Reads as step
 use Rattle.debounce.proofs.Debouncer.events_verdict.Reads as events-verdict
 use Rattle.debounce.proofs.Debouncer.events.Reads as reads
@@ -36,20 +36,22 @@ tell-step-requires c κs =
     let stepped = c .before .before in
     let f = events-fine _ _ _ (fine (stepped .before)) in
     let sizes = f .0 .sizes in
-    rw (stepped .step .ensures) (sizes .some-columns, sizes .few-columns, sizes .few, f .1)
+    rw (stepped .step .ensures) (sizes .few-rows, sizes .some-columns, sizes .few-columns, f .1)
 
 returns : tie.Need-returns
-unfolding told eventsOf buffered
+unfolding ifFine eventsOf
 returns c =
     let counted = c .before .before in
     let stepped = counted .before .before .before in
     let ens = counted .tell-step .ensures in
     let fits = whole (stepped .before) in
-    rw (fine (stepped .before)) (rw (ens .0, stepped .step .ensures, fits), ens .1 ∙ rw (stepped .step .ensures, fits))
+    rw (fine (stepped .before), ens .0, ens .1, stepped .step .ensures, fits)
 
 returns-2 : tie.Need-returns-2
-unfolding told eventsOf buffered
-returns-2 c = rw (sym (c .before .before .before .events-verdict .ensures) ∙ c .before .verdict .given .1) (refl, refl)
+unfolding ifFine eventsOf
+returns-2 c =
+    let refused = sym (c .before .before .before .events-verdict .ensures) ∙ c .before .verdict .given .1 in
+    rw (refused, events-place _ _ _ _ _ refused)
 
 pub events-spec : {M : Type 1} → statement M
 events-spec =

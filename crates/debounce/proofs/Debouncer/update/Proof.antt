@@ -2,11 +2,11 @@
 use borrow.Author.Needs.{needs}
 use mathlib.Core.Path.{_≡_, sym, _∙_}
 use Rattle.debounce.specs.Picture.{padded}
-use Rattle.debounce.specs.Calls.{updateVerdict, updated}
-use Rattle.debounce.specs.declared.Verdict.the-variants.{Fine}
+use Rattle.debounce.specs.Calls.{updateVerdict, ifFine}
+use Rattle.refusal.specs.declared.Verdict.the-variants.{Fine}
 use Rattle.debounce.proofs.Laws.{pad-fits}
-use Rattle.debounce.proofs.States.{update-fine}
-use Rattle.debounce.proofs.pad.Reads as pad
+use Rattle.debounce.proofs.States.{update-fine, update-place}
+use Rattle.debounce.proofs.picture.pad.Reads as pad
 use Rattle.debounce.proofs.Debouncer.step.Reads as step
 use Rattle.debounce.proofs.Debouncer.update_verdict.Reads as update-verdict
 use Rattle.debounce.proofs.Debouncer.update.Reads as reads
@@ -30,14 +30,16 @@ step-requires : tie.Need-step-requires
 step-requires c κs = update-fine _ _ (fine c) .since-low
 
 returns : tie.Need-returns
-unfolding updated
+unfolding ifFine
 returns c =
     let stepped = c .before in
     rw (fine (stepped .before), stepped .step .ensures, whole (stepped .before))
 
 returns-2 : tie.Need-returns-2
-unfolding updated
-returns-2 c = rw (sym (c .before .before .before .update-verdict .ensures) ∙ c .before .verdict .given .1)
+unfolding ifFine
+returns-2 c =
+    let refused = sym (c .before .before .before .update-verdict .ensures) ∙ c .before .verdict .given .1 in
+    rw (refused, update-place _ _ _ _ refused)
 
 pub update-spec : {M : Type 1} → statement M
 update-spec =

@@ -1,7 +1,7 @@
 -- `image::areas::check_area` meets its contract: the faults of the area, then the check of its stretch. Assumes nothing.
 use Prim.Native.Nat.{_*_, _+_}
 use Rattle.image.proofs.Chosen.{area-at, area-fine, head-size}
-use Rattle.image.proofs.Faults.{rule-no, rule-yes}
+use Rattle.refusal.proofs.Verdicts.{rule-no, rule-yes}
 use Rattle.image.proofs.Said.{said-one}
 use Rattle.image.specs.Check.{answer, checkOf, headFault}
 use Rattle.image.specs.Use.{areaFault, areaOf}
@@ -14,7 +14,7 @@ use lib.ListN.{length, take}
 use lib.Seq.{length-take-le}
 use mathlib.Core.Path.{_∙_, _≡_, ap, sym}
 use native.Mathlib.Omega.{arith}
-use Rattle.image.specs.declared.rules.Fault.{Fault}
+use Rattle.refusal.specs.declared.Verdict.{Verdict}
 use Rattle.image.specs.declared.words.Shape.{Shape}
 use Rattle.image.proofs.areas.check_area.Statement.{statement}
 use Rattle.image.proofs.areas.check_area.Tie as tie
@@ -31,12 +31,12 @@ size : (c : tie.After-shape-of) → c .shape-of .result .«list_at» + 2 * c .sh
 size c = ap (λ (s : Shape). s .«list_at» + 2 * s .entries) (c .shape-of .ensures .0)
 
 -- the faults of the header, and of the area, whose first rule is kept
-header : (c : tie.After-head-fault) (f : Fault) → c .head-fault .result ≡ f → headFault (now (lent (at-header c) .args .area)) (leb (sizeOf (now (lent (at-header c) .args .area))) (length (now (lent (at-header c) .args .area)))) ≡ f
+header : (c : tie.After-head-fault) (f : Verdict) → c .head-fault .result ≡ f → headFault (now (lent (at-header c) .args .area)) (leb (sizeOf (now (lent (at-header c) .args .area))) (length (now (lent (at-header c) .args .area)))) ≡ f
 header c f e =
     let area = now (lent (at-header c) .args .area) in
     sym (c .head-fault .ensures ∙ ap (λ k. headFault area (leb k (length area))) (size (at-header c))) ∙ e
 
-faults : (c : tie.After-head-fault) (f : Fault) → c .head-fault .result ≡ f → areaFault (now (lent (at-header c) .args .area)) ≡ f
+faults : (c : tie.After-head-fault) (f : Verdict) → c .head-fault .result ≡ f → areaFault (now (lent (at-header c) .args .area)) ≡ f
 unfolding areaFault
 faults c f e = sym (rule-yes _ _ _ _ (le-leb _ _ (at-header c .before .if1 .left)) (sym (header c f e)))
 

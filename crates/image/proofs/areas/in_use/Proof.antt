@@ -1,5 +1,6 @@
 -- `image::areas::in_use` meets its contract: the part is as long as the chosen image, which lies in its area. Assumes nothing.
 use Rattle.image.proofs.Chosen.{built-in-chosen, chosen-fits, operator-chosen}
+use Rattle.image.proofs.Said.{source-one}
 use Rattle.image.specs.Use.{sourceOf, stretchOf}
 use Rattle.image.specs.declared.areas.Source.{Source}
 use borrow.Author.Needs.{needs}
@@ -15,7 +16,7 @@ lent c = c .before .before .before
 
 -- what was answered is where the table lies
 lies : (c : tie.After-source-of) (s : Source) → c .source-of .result ≡ s → sourceOf (now (lent c .args .operator)) (now (lent c .args .built-in)) ≡ s
-lies c s e = sym (c .source-of .ensures) ∙ e
+lies c s e = sym (source-one _ _ (c .source-of .ensures)) ∙ e
 
 -- so the part given is the stretch in use
 stretch : (c : tie.After-source-of) (s : Source) → c .source-of .result ≡ s → stretchOf s (now (lent c .args .operator)) (now (lent c .args .built-in)) ≡ stretchOf (sourceOf (now (lent c .args .operator)) (now (lent c .args .built-in))) (now (lent c .args .operator)) (now (lent c .args .built-in))

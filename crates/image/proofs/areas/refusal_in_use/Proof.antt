@@ -1,4 +1,5 @@
 -- `image::areas::refusal_in_use` meets its contract: each arm knows which area was chosen. Assumes nothing.
+use Rattle.refusal.specs.Said.{toldIn}
 use Rattle.image.specs.Use.{refusalIn, sourceOf}
 use Rattle.image.specs.declared.areas.Source.{Source}
 use borrow.Author.Needs.{needs}
@@ -8,7 +9,7 @@ use Rattle.image.proofs.areas.refusal_in_use.Statement.{statement}
 use Rattle.image.proofs.areas.refusal_in_use.Tie as tie
 
 told : (c : tie.After-source-of) (s : Source) → c .source-of .result ≡ s → refusalIn s ≡ refusalIn (sourceOf (now (c .before .before .before .args .operator)) (now (c .before .before .before .args .built-in)))
-told c s e = ap refusalIn (sym e ∙ c .source-of .ensures)
+told c s e = ap refusalIn (sym e) ∙ ap toldIn (c .source-of .ensures)
 
 returns : tie.Need-returns
 returns c = told (c .before .before) _ (c .enum-told .given .1)

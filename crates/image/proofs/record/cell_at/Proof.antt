@@ -1,6 +1,6 @@
--- `image::record::cell_at` meets its contract: a cell's place fits a machine word, since rows and columns are words. Assumes nothing.
+-- `image::record::cell_at` meets its contract: a cell's place fits 64 bits, since rows and columns are words. Assumes nothing.
 use Prim.Native.Nat.{ℕ, _*_, _+_, _^_, _≤_}
-use Rattle.image.proofs.Header.{room}
+use Rattle.image.proofs.HeaderRules.{room}
 use Rattle.image.specs.Record.{cellAt}
 use Rattle.image.specs.Words.{cellOf, columnsOf, layersOf, rowsOf}
 use borrow.Author.Needs.{needs}

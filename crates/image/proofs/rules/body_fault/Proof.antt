@@ -1,8 +1,9 @@
 -- `image::rules::body_fault` meets its contract: cells, then records. Assumes nothing.
 use Prim.Native.Nat.{_*_}
-use Rattle.image.proofs.Faults.{or-on, or-stop}
-use Rattle.image.proofs.Header.{small}
-use Rattle.image.specs.Check.{bodyFault, cellFault, firstFault, recordFault}
+use Rattle.refusal.proofs.Verdicts.{or-on, or-stop}
+use Rattle.image.proofs.HeaderRules.{small}
+use Rattle.refusal.specs.Verdict.{firstFault}
+use Rattle.image.specs.Check.{bodyFault, cellFault, recordFault}
 use Rattle.image.specs.Words.{cellsOf}
 use borrow.Author.Needs.{needs}
 use denote.Ref.{now}

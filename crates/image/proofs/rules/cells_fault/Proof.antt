@@ -1,8 +1,9 @@
 -- `image::rules::cells_fault` meets its contract. The invariant: the first fault is that from the cell reached on. Assumes nothing.
 use Prim.Native.Nat.{_-_, _≤_}
-use Rattle.image.proofs.Faults.{fault-here, fault-none, fault-on}
-use Rattle.image.proofs.Header.{cell-bad, cell-fine}
-use Rattle.image.specs.Check.{cellFault, firstFault}
+use Rattle.refusal.proofs.Verdicts.{fault-here, fault-none, fault-on}
+use Rattle.image.proofs.HeaderRules.{cell-bad, cell-fine}
+use Rattle.refusal.specs.Verdict.{firstFault}
+use Rattle.image.specs.Check.{cellFault}
 use Rattle.image.specs.Words.{cellOf}
 use borrow.Author.Needs.{needs}
 use denote.Ref.{now}

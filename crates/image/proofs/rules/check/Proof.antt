@@ -1,5 +1,6 @@
 -- `image::rules::check` meets its contract: Short, then the faults of an image with a header. Assumes nothing.
-use Rattle.image.proofs.Faults.{answer-at, answer-fine, rule-no}
+use Rattle.refusal.proofs.Verdicts.{rule-no}
+use Rattle.image.proofs.Tests.{answer-at, answer-fine}
 use Rattle.image.specs.Check.{answer, checkOf, faultOf, saidOf}
 use borrow.Author.Needs.{needs}
 use borrow.Author.Tests.{lt-leb}

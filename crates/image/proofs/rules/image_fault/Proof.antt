@@ -1,7 +1,7 @@
 -- `image::rules::image_fault` meets its contract: the header, then the body. Assumes nothing.
 use Prim.Native.Nat.{_*_, _+_}
-use Rattle.image.proofs.Faults.{or-on, or-stop, rule-yes}
-use Rattle.image.proofs.Header.{framed}
+use Rattle.refusal.proofs.Verdicts.{or-on, or-stop, rule-yes}
+use Rattle.image.proofs.HeaderRules.{framed}
 use Rattle.image.specs.Check.{faultOf, headFault}
 use Rattle.image.specs.Words.{sizeOf}
 use borrow.Author.Needs.{needs}

@@ -1,7 +1,7 @@
 -- `keyboard::Keyboard::clock` meets its contract. Assumes nothing.
 use borrow.Author.Needs.{needs}
 use mathlib.Core.Path.{sym, _∙_}
-use Rattle.keyboard.specs.Keyboard.{clocked}
+use Rattle.keyboard.specs.Idle.{clocked}
 use Rattle.keyboard.proofs.Keyboard.clock.Statement.{statement}
 use Rattle.keyboard.proofs.Keyboard.clock.Tie as tie
 

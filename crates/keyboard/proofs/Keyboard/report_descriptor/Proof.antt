@@ -1,6 +1,6 @@
 -- `keyboard::Keyboard::report_descriptor` meets its contract. Assumes nothing.
 use mathlib.Core.Path.{refl}
-use Rattle.keyboard.specs.Keyboard.{descriptor}
+use Rattle.keyboard.specs.Descriptor.{descriptor}
 use Rattle.keyboard.proofs.Keyboard.report_descriptor.Statement.{statement}
 use Rattle.keyboard.proofs.Keyboard.report_descriptor.Tie as tie
 

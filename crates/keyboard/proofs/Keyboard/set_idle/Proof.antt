@@ -1,6 +1,6 @@
 -- `keyboard::Keyboard::set_idle` meets its contract. Assumes nothing.
 use mathlib.Core.Path.{refl}
-use Rattle.keyboard.specs.Keyboard.{idled}
+use Rattle.keyboard.specs.Idle.{idled}
 use Rattle.keyboard.proofs.Keyboard.set_idle.Statement.{statement}
 use Rattle.keyboard.proofs.Keyboard.set_idle.Tie as tie
 

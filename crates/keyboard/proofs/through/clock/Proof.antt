@@ -3,7 +3,7 @@
 use contract.Running.{givenOf, tables, tablesOf}
 use denote.Triple.Spec.{tripleOf}
 use denote.Triple.Table.{entered, cited}
-use Rattle.keyboard.specs.Keyboard.{clocked}
+use Rattle.keyboard.specs.Idle.{clocked}
 use Rattle.keyboard.proofs.Lends.{meets0, Lent0}
 use Rattle.keyboard.proofs.Sorts.{yes-no as #yes-no, clocked as #clocked}
 use Rattle.keyboard.proofs.lent.keyboard_clock.Symbol as f

@@ -3,7 +3,7 @@
 use contract.Running.{givenOf, tables, tablesOf}
 use denote.Triple.Spec.{tripleOf}
 use denote.Triple.Table.{entered, cited}
-use Rattle.keyboard.specs.Keyboard.{idled}
+use Rattle.keyboard.specs.Idle.{idled}
 use Rattle.keyboard.proofs.Lends.{meets1, Lent1}
 use Rattle.keyboard.proofs.Sorts.{byte as #byte, answered as #answered}
 use Rattle.keyboard.proofs.lent.keyboard_set_idle.Symbol as f

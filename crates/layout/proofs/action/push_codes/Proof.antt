@@ -10,7 +10,7 @@ use Rattle.image.specs.Words.{entries}
 use Rattle.lists.specs.Lists.{every}
 use Rattle.layout.specs.Actions.{pushCodes}
 use Rattle.image.proofs.Accepted.{entry-is, entry-not, entries-step, all-head, all-tail}
-use Rattle.layout.proofs.Turns.{Left, left-start, left-step, left-end}
+use Rattle.layout.proofs.Effects.{Left, left-start, left-step, left-end}
 use Rattle.layout.proofs.action.push_codes.Statement.{statement}
 use Rattle.layout.proofs.action.push_codes.Tie as tie
 
@@ -25,7 +25,7 @@ abbrev μ-loop : tie.MeasureT-loop
 loop-holds : tie.Need-loop-holds Inv-loop μ-loop
 loop-holds c =
     let s = c .before in
-    (omega arith, s .pre .1, λ k. left-start (s .args .image .now) k (s .args .turn) _ _ (s .pre .0))
+    (omega arith, s .pre .1 .0, λ k. left-start (s .args .image .now) k (s .args .effect) _ _ (s .pre .0))
 
 returns : tie.Need-returns Inv-loop μ-loop
 returns c =

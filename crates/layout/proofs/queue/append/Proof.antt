@@ -1,6 +1,6 @@
 -- `layout::queue::append` meets its contract. Assumes nothing.
 use borrow.Author.Needs.{needs}
-use Rattle.layout.proofs.Runs.{append-room}
+use Rattle.layout.proofs.Parts.{append-room}
 use Rattle.layout.proofs.queue.append.Statement.{statement}
 use Rattle.layout.proofs.queue.append.Tie as tie
 

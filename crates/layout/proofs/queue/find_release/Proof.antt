@@ -4,16 +4,17 @@ use mathlib.Core.Path.{_≡_, refl, sym, _∙_}
 use native.Mathlib.Omega.{arith}
 use borrow.Author.Needs.{needs}
 use Rattle.layout.specs.Actions.{find}
+use mathlib.Core.List.{map}
 use lib.ListN.{take, drop}
-use Rattle.layout.specs.Packed.{noStacked}
+use Rattle.layout.specs.Packed.{noStacked, queuedOf}
 use Rattle.layout.proofs.Pads.{drop-one, drop-done}
-use Rattle.layout.proofs.Runs.{lined-length}
+use Rattle.layout.proofs.Parts.{lined-length}
 use Rattle.layout.proofs.queue.find_release.Statement.{statement}
 use Rattle.layout.proofs.queue.find_release.Tie as tie
 
 abbrev Inv-loop : tie.InvT-loop
 Inv-loop coord queue n i₀ i =
-    (i ≤ n) × (find coord (take n (queue .stacked)) ≡ find coord (drop i (take n (queue .stacked))))
+    (i ≤ n) × (find coord (map queuedOf (take n (queue .stacked))) ≡ find coord (map queuedOf (drop i (take n (queue .stacked)))))
 
 abbrev μ-loop : tie.MeasureT-loop
 μ-loop coord queue n i₀ i = n - i

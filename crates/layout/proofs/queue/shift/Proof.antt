@@ -1,14 +1,14 @@
 -- `layout::queue::shift` meets its contract. Assumes nothing.
 use Prim.Native.Nat.{suc, _+_, _-_, _≤_}
-use mathlib.Core.List.{_++_}
-use mathlib.Core.Path.{_≡_, refl, sym}
+use mathlib.Core.List.{_++_, map}
+use mathlib.Core.Path.{_≡_, refl, sym, ap, _∙_}
 use native.Mathlib.Omega.{arith}
 use borrow.Author.Needs.{needs}
-use Rattle.layout.specs.Packed.{noStacked}
-use lib.ListN.{length, take, drop, length-drop}
+use Rattle.layout.specs.Packed.{noStacked, queuedOf}
+use lib.ListN.{length, take, drop, set, length-drop}
 use lib.Seq.{length-take-le, append-snoc}
 use Rattle.layout.proofs.Pads.{buf-more, tail-on, clean-rest, drop1-take}
-use Rattle.layout.proofs.Runs.{lined-length, new-queue}
+use Rattle.layout.proofs.Parts.{lined-length, new-queue, rest-list}
 use Rattle.layout.proofs.queue.shift.Statement.{statement}
 use Rattle.layout.proofs.queue.shift.Tie as tie
 
@@ -44,7 +44,8 @@ returns c =
     let count : length (take (n - 1) (drop 1 all)) ≡ n - 1 = length-take-le (n - 1) (drop 1 all) (omega arith) in
     let rest = clean-rest 16 n noStacked all (omega arith) (s .pre .0 .clean) in
     let moved = rw up at (b .loop .inv .1) in
-    rw (drop1-take n all) (new-queue (take (n - 1) (drop 1 all)) _ (n - 1) (omega arith) (sym count) (rw (moved, buf-more _ all noStacked (n - 1) (sym count) (omega arith), last, rest, count, one, append-snoc)))
+    let q = new-queue (take (n - 1) (drop 1 all)) (set (b .loop .out .stacked) (n - 1) noStacked) (n - 1) (omega arith) (sym count) (rw (moved, buf-more (take (n - 1) (drop 1 all)) all noStacked (n - 1) (sym count) (omega arith), last, rest, count, one, append-snoc)) in
+    (q .0, q .1 ∙ ap (map queuedOf) (sym (drop1-take n all)) ∙ rest-list (take n all))
 
 pub shift-spec : {M : Type 1} → statement M
 shift-spec =

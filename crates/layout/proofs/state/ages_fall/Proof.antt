@@ -1,18 +1,19 @@
 -- `layout::state::ages_fall` meets its contract. Assumes nothing.
 use Prim.Native.Nat.{_-_, _≤_}
+use mathlib.Core.List.{map}
 use mathlib.Core.Path.{_≡_, refl, sym, _∙_}
 use native.Mathlib.Omega.{arith}
 use borrow.Author.Needs.{needs}
 use lib.ListN.{length, take, drop, length-map, length-drop, length-take}
-use Rattle.layout.specs.Packed.{noStacked}
-use Rattle.layout.specs.Calls.{falling}
+use Rattle.layout.specs.Packed.{noStacked, queuedOf}
+use Rattle.layout.specs.State.{falling}
 use Rattle.layout.proofs.States.{falling-next, falling-stop, falling-short}
 use Rattle.layout.proofs.state.ages_fall.Statement.{statement}
 use Rattle.layout.proofs.state.ages_fall.Tie as tie
 
 abbrev Inv-loop : tie.InvT-loop
 Inv-loop queue n i₀ i =
-    (i ≤ n) × (falling (take n (queue .stacked)) ≡ falling (drop i (take n (queue .stacked))))
+    (i ≤ n) × (falling (map queuedOf (take n (queue .stacked))) ≡ falling (map queuedOf (drop i (take n (queue .stacked)))))
 
 abbrev μ-loop : tie.MeasureT-loop
 μ-loop queue n i₀ i = n - i
@@ -40,7 +41,7 @@ returns-2 : tie.Need-returns-2 Inv-loop μ-loop
 returns-2 c =
     let s = c .before .before in
     let n = s .args .t1 .queued in
-    sym (c .before .loop .inv .1 ∙ falling-short (drop (c .before .loop .i) (take n (s .args .t1 .stacked))) (simp (length-drop, length-take) (omega arith)))
+    sym (c .before .loop .inv .1 ∙ falling-short (map queuedOf (drop (c .before .loop .i) (take n (s .args .t1 .stacked)))) (simp (length-map, length-drop, length-take) (omega arith)))
 
 pub ages-fall-spec : {M : Type 1} → statement M
 ages-fall-spec =

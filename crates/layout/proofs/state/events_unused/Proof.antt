@@ -8,7 +8,7 @@ use Rattle.lists.proofs.Laws.{every-on, every-fails, every-none}
 use borrow.Author.Tests.{not-true, not-false}
 use lib.ListN.{length, drop, length-map}
 use Rattle.layout.specs.Packed.{noStacked}
-use Rattle.layout.specs.Calls.{unusedStacked}
+use Rattle.layout.specs.State.{unusedStacked}
 use Rattle.layout.proofs.state.events_unused.Statement.{statement}
 use Rattle.layout.proofs.state.events_unused.Tie as tie
 

@@ -8,7 +8,8 @@ use Rattle.image.specs.Words.{layersOf}
 use lib.Dec.{leb, ltb}
 use lib.ListN.{take}
 use Rattle.lists.specs.Lists.{every}
-use Rattle.layout.specs.Calls.{legalSlot, falling, waitingGood, stateGood}
+use Rattle.layout.specs.Packed.{listIn}
+use Rattle.layout.specs.State.{legalSlot, falling, waitingGood, stateGood}
 use Rattle.layout.proofs.state.state_good.Statement.{statement}
 use Rattle.layout.proofs.state.state_good.Tie as tie
 
@@ -16,25 +17,25 @@ use Rattle.layout.proofs.state.state_good.Tie as tie
 abbrev start : tie.Else2 → tie.Start
 start c = c .before .before .before .before .before
 
-sized : (c : tie.Else2) → (leb (start c .args .run .len) 64 ≡ true) × (leb (start c .args .queue .queued) 16 ≡ true)
+sized : (c : tie.Else2) → (leb (start c .args .active .len) 64 ≡ true) × (leb (start c .args .queue .queued) 16 ≡ true)
 sized c = (le-leb _ _ (c .before .before .if1 .left), le-leb _ _ (c .if2 .left))
 
-coded : (c : tie.Else3) → let s = start (c .before .before) in every legalSlot (take (s .args .run .len) (s .args .run .states)) ≡ true
+coded : (c : tie.Else3) → let s = start (c .before .before) in every legalSlot (take (s .args .active .len) (s .args .active .states)) ≡ true
 coded c = sym (c .before .states-legal .ensures) ∙ not-false _ (c .if3 .left)
 
-based : (c : tie.Else4) → let s = start (c .before .before .before .before) in ltb (s .args .run .«default_layer») (layersOf (s .args .image .now)) ≡ true
-based c = let s = start (c .before .before .before .before) in lt-ltb (s .args .run .«default_layer») (layersOf (s .args .image .now)) (omega (arith, c .if4 .left, s .pre .1))
+based : (c : tie.Else4) → let s = start (c .before .before .before .before) in ltb (s .args .active .«default_layer») (layersOf (s .args .image .now)) ≡ true
+based c = let s = start (c .before .before .before .before) in lt-ltb (s .args .active .«default_layer») (layersOf (s .args .image .now)) (omega (arith, c .if4 .left, s .pre .1))
 
-aged : (c : tie.Else5) → let s = start (c .before .before .before .before .before .before) in falling (take (s .args .queue .queued) (s .args .queue .stacked)) ≡ true
+aged : (c : tie.Else5) → let s = start (c .before .before .before .before .before .before) in falling (listIn (s .args .queue)) ≡ true
 aged c = sym (c .before .ages-fall .ensures) ∙ not-false _ (c .if5 .left)
 
-waits : (c : tie.Else6) → let s = start (c .before .before .before .before .before .before .before .before) in waitingGood (s .args .image .now) (s .args .run .waiting) ≡ true
+waits : (c : tie.Else6) → let s = start (c .before .before .before .before .before .before .before .before) in waitingGood (s .args .image .now) (s .args .active .waiting) ≡ true
 waits c = sym (c .before .waiting-good .ensures) ∙ not-false _ (c .if6 .left)
 
 -- all of them but the unused places
 all-but-unused : (c : tie.Else6) (rest : Bool)
     → let s = start (c .before .before .before .before .before .before .before .before) in
-    (leb (s .args .run .len) 64 && (leb (s .args .queue .queued) 16 && (every legalSlot (take (s .args .run .len) (s .args .run .states)) && (ltb (s .args .run .«default_layer») (layersOf (s .args .image .now)) && (falling (take (s .args .queue .queued) (s .args .queue .stacked)) && (waitingGood (s .args .image .now) (s .args .run .waiting) && rest)))))) ≡ rest
+    (leb (s .args .active .len) 64 && (leb (s .args .queue .queued) 16 && (every legalSlot (take (s .args .active .len) (s .args .active .states)) && (ltb (s .args .active .«default_layer») (layersOf (s .args .image .now)) && (falling (listIn (s .args .queue)) && (waitingGood (s .args .image .now) (s .args .active .waiting) && rest)))))) ≡ rest
 all-but-unused c rest =
     let five = c .before .before in
     let four = five .before .before in
@@ -62,7 +63,7 @@ returns-4 c =
     let three = c .before .before in
     let two = three .before .before in
     let s = start two in
-    rw (sized two .0, sized two .1, coded three, le-ltb (s .args .run .«default_layer») (layersOf (s .args .image .now)) (omega (arith, c .if4 .taken, s .pre .1)))
+    rw (sized two .0, sized two .1, coded three, le-ltb (s .args .active .«default_layer») (layersOf (s .args .image .now)) (omega (arith, c .if4 .taken, s .pre .1)))
 
 returns-5 : tie.Need-returns-5
 unfolding stateGood

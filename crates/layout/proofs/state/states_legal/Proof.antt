@@ -7,18 +7,18 @@ use Rattle.lists.specs.Lists.{every}
 use borrow.Author.Tests.{not-true, not-false}
 use lib.ListN.{length, take, drop, length-map}
 use Rattle.layout.specs.Packed.{noSlot}
-use Rattle.layout.specs.Calls.{legalSlot}
+use Rattle.layout.specs.State.{legalSlot}
 use Rattle.layout.proofs.Pads.{drop-done}
 use Rattle.layout.proofs.States.{every-next, every-stop}
 use Rattle.layout.proofs.state.states_legal.Statement.{statement}
 use Rattle.layout.proofs.state.states_legal.Tie as tie
 
 abbrev Inv-loop : tie.InvT-loop
-Inv-loop run n i₀ i =
-    (i ≤ n) × (every legalSlot (take n (run .states)) ≡ every legalSlot (drop i (take n (run .states))))
+Inv-loop active n i₀ i =
+    (i ≤ n) × (every legalSlot (take n (active .states)) ≡ every legalSlot (drop i (take n (active .states))))
 
 abbrev μ-loop : tie.MeasureT-loop
-μ-loop run n i₀ i = n - i
+μ-loop active n i₀ i = n - i
 
 -- every array has its length
 long : (c : tie.Start Inv-loop μ-loop) → length (c .args .t1 .states) ≡ 64

@@ -8,16 +8,16 @@ use Rattle.lists.proofs.Laws.{every-on, every-fails, every-none}
 use borrow.Author.Tests.{not-true, not-false}
 use lib.ListN.{length, drop, length-map}
 use Rattle.layout.specs.Packed.{noSlot}
-use Rattle.layout.specs.Calls.{unusedSlot}
+use Rattle.layout.specs.State.{unusedSlot}
 use Rattle.layout.proofs.state.states_unused.Statement.{statement}
 use Rattle.layout.proofs.state.states_unused.Tie as tie
 
 abbrev Inv-loop : tie.InvT-loop
-Inv-loop run i₀ i =
-    (i₀ ≤ i) × (every unusedSlot (drop i₀ (run .states)) ≡ every unusedSlot (drop i (run .states)))
+Inv-loop active i₀ i =
+    (i₀ ≤ i) × (every unusedSlot (drop i₀ (active .states)) ≡ every unusedSlot (drop i (active .states)))
 
 abbrev μ-loop : tie.MeasureT-loop
-μ-loop run i₀ i = 64 - i
+μ-loop active i₀ i = 64 - i
 
 -- every array has its length
 long : (c : tie.Start Inv-loop μ-loop) → length (c .args .t1 .states) ≡ 64

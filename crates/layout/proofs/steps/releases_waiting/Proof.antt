@@ -3,7 +3,7 @@ use mathlib.Core.Path.{sym, ap, _∙_}
 use borrow.Author.Needs.{needs}
 use Rattle.layout.specs.Steps.{releases}
 use Rattle.layout.specs.Packed.{waitingOf}
-use Rattle.layout.specs.declared.run.Waiting.{Waiting}
+use Rattle.layout.specs.declared.active.Waiting.{Waiting}
 use Rattle.layout.proofs.steps.releases_waiting.Statement.{statement}
 use Rattle.layout.proofs.steps.releases_waiting.Tie as tie
 

@@ -5,10 +5,10 @@ use Rattle.replay.proofs.board.clocks.Statement.{statement}
 use Rattle.replay.proofs.board.clocks.Tie as tie
 
 abbrev Inv-loop : tie.InvT-loop
-Inv-loop n now₀ due₀ i₀ now due i = Unit {0}
+Inv-loop n last₀ due₀ i₀ last due i = Unit {0}
 
 abbrev μ-loop : tie.MeasureT-loop
-μ-loop n now₀ due₀ i₀ now due i = n - i
+μ-loop n last₀ due₀ i₀ last due i = n - i
 
 pub clocks-spec : {M : Type 1} → statement M
 clocks-spec =

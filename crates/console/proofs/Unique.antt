@@ -1,0 +1,7 @@
+-- The public function's contract decides its whole answer. Assumes nothing.
+use mathlib.Core.Path.{refl, _∙_, sym}
+use Rattle.decides.specs.Decides.{Decides, both}
+use Rattle.console.proofs.write_line as W
+
+pub write-line : Decides W.ended (λ M. W.spec) (λ M. W.clauses)
+write-line M 𝓤 H A m r = record { same = refl; free = λ κs a g. refl; only = λ κs a g g′ x x′ ws ws′. both 𝓤 _ _ _ (λ p q. (p ∙ sym q, refl)) }

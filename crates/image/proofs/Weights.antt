@@ -1,0 +1,199 @@
+-- Laws of the children of a record: what a record is by itself and its children, and what one pass over them says.
+-- Assumes nothing.
+use mathlib.Core.Path.{_≡_, refl, sym, ap, _∙_}
+use mathlib.Core.Bool.{Bool, true, false, cond, not, _&&_, _||_}
+use mathlib.Core.List.{List, [], _∷_, _++_}
+use Prim.Native.Nat.{ℕ, _+_, _-_, _*_, _<_, _≤_}
+use native.Mathlib.Omega.{arith}
+use borrow.Author.Tests.{leb-true, leb-false, eqb-true, eqb-false, ltb-true, lt-leb, ne-eqb}
+use lib.ListN.{length}
+use lib.Dec.{eqb, leb, ltb}
+use Rattle.lists.specs.Lists.{every}
+use Rattle.lists.proofs.Laws.{every-head}
+use Rattle.image.specs.Inside.{Placed, Formed, wordsFrom, ChildWords, childrenAt, weighedOf, childrenOf, Parts}
+use Rattle.image.specs.Words.{recordsAt, wordAt, fieldOf, entries}
+use Rattle.image.specs.Record.{actionOf, childrenIn, listEnd}
+use Rattle.image.specs.Tree.{Action, named, meaning, tree, open?, someOpen, shutButLast, weight, weights}
+use Rattle.image.specs.Check.{form, formGood}
+use Rattle.image.specs.declared.children.Child.{Child}
+use Rattle.image.specs.declared.children.Weighed.{Weighed}
+use Rattle.image.specs.declared.children.Children.{Children}
+use Rattle.image.specs.Sound.{Good, Meant}
+use Rattle.image.specs.declared.record.Action.the-variants as code
+use Rattle.image.proofs.Tests.{and-true, and-assoc, or-false, not-or}
+use Rattle.image.proofs.Entries.{length-entries, entries-words, words-none, words-on, words-tail}
+use Rattle.image.proofs.Trees.{action-inside, meant, by-kind}
+
+-- lower records are good: each weighs at most 64
+module _ (img : List ℕ) (n : ℕ) (f : Formed img n) where
+  pub few-weights : (ks : List ℕ) → every (λ k. ltb k n) ks ≡ true → weights (named (tree img) ks) ≤ 64 * length ks
+  unfolding weight named
+  few-weights [] e = omega arith
+  few-weights (k ∷ ks) e =
+      let both = every-head (λ k. ltb k n) k ks e in
+      omega (arith, f .before k (ltb-true k n (both .0)) .light, few-weights ks (both .1))
+
+-- what the pass says
+module _ (img : List ℕ) (n : ℕ) (ks : List ℕ) where
+  pub sum-yes : {o : Bool} {w : ℕ} → every (λ k. ltb k n) ks ≡ true → o ≡ someOpen (named (tree img) ks) → w ≡ weights (named (tree img) ks) → record { lower = true; opens = o; weight = w } ≡ childrenOf img n ks
+  unfolding childrenOf
+  sum-yes e p q = rw (e, p, q)
+
+  pub sum-no : every (λ k. ltb k n) ks ≡ false → record { lower = false; opens = false; weight = 0 } ≡ childrenOf img n ks
+  unfolding childrenOf
+  sum-no e = rw e
+
+  -- all are lower: then what it says of them holds
+  pub record Lower (s : Children) : Type 0 where
+    pub all : every (λ k. ltb k n) ks ≡ true
+    pub opens : s .opens ≡ someOpen (named (tree img) ks)
+    pub weight : s .weight ≡ weights (named (tree img) ks)
+
+  says : (b : Bool) (s : Children) → every (λ k. ltb k n) ks ≡ b → s ≡ childrenOf img n ks → (s .lower ≡ b) × (b ≡ true → Lower s) × (b ≡ false → s .weight ≡ 0)
+  unfolding childrenOf
+  says true s e f =
+      let g : s ≡ record { lower = true; opens = someOpen (named (tree img) ks); weight = weights (named (tree img) ks) } = f ∙ rw e in
+      (ap (λ (x : Children). x .lower) g, (λ t. record { all = e; opens = ap (λ (x : Children). x .opens) g; weight = ap (λ (x : Children). x .weight) g }), λ t. let z : _≡_ {A = ℕ} 0 1 = cc in absurd (omega arith))
+  says false s e f =
+      let g : s ≡ record { lower = false; opens = false; weight = 0 } = f ∙ rw e in
+      (ap (λ (x : Children). x .lower) g, (λ t. let z : _≡_ {A = ℕ} 0 1 = cc in absurd (omega arith)), λ t. ap (λ (x : Children). x .weight) g)
+
+  pub sum-lower : (s : Children) → s ≡ childrenOf img n ks → s .lower ≡ true → Lower s
+  sum-lower s e h = let t = says (every (λ k. ltb k n) ks) s refl e in t .1 (sym (t .0) ∙ h)
+
+  pub sum-high : (s : Children) → s ≡ childrenOf img n ks → s .lower ≡ false → every (λ k. ltb k n) ks ≡ false
+  sum-high s e h = sym (says (every (λ k. ltb k n) ks) s refl e .0) ∙ h
+
+  pub sum-few : (s : Children) → Formed img n → s ≡ childrenOf img n ks → s .weight ≤ 64 * length ks
+  sum-few s f e = go (every (λ k. ltb k n) ks) refl
+    where
+      go : (b : Bool) → every (λ k. ltb k n) ks ≡ b → s .weight ≤ 64 * length ks
+      go true t = omega (arith, says true s t e .1 refl .weight, few-weights img n f ks t)
+      go false t = omega (arith, says false s t e .2 refl)
+
+-- children one at a time: what is found of the first, and what is left
+or-assoc : (a b c : Bool) → ((a || b) || c) ≡ (a || (b || c))
+or-assoc true b c = refl
+or-assoc false b c = refl
+
+pub children-step : (img : List ℕ) (at left k : ℕ) (h : Weighed) → 0 < left → k ≡ wordAt img at → h ≡ weighedOf (tree img k)
+    → (weights (childrenAt img at left) ≡ h .weight + weights (childrenAt img (at + 2) (left - 1))) × (someOpen (childrenAt img at left) ≡ (h .opens || someOpen (childrenAt img (at + 2) (left - 1))))
+unfolding weight open?
+children-step img at left k h p e f =
+    let x : weighedOf (tree img (wordAt img at)) ≡ h = sym (f ∙ ap (λ k. weighedOf (tree img k)) e) in
+    let r = words-on img at left (tree img) p in
+    (ap weights r ∙ ap (λ (y : Weighed). y .weight + weights (childrenAt img (at + 2) (left - 1))) x, ap someOpen r ∙ ap (λ (y : Weighed). y .opens || someOpen (childrenAt img (at + 2) (left - 1))) x)
+
+pub children-end : (img : List ℕ) (at left : ℕ) → left ≤ 0 → (weights (childrenAt img at left) ≡ 0) × (someOpen (childrenAt img at left) ≡ false)
+unfolding weight open?
+children-end img at left h = let r = words-none img at left (tree img) h in (ap weights r, ap someOpen r)
+
+pub opens-on : (o b rest : Bool) {e both all : Bool} → e ≡ (o || b) → both ≡ (b || rest) → (o || both) ≡ all → (e || rest) ≡ all
+opens-on o b rest p q r = ap (λ z. z || rest) p ∙ or-assoc o b rest ∙ ap (λ z. o || z) (sym q) ∙ r
+
+pub opens-end : {o rest all : Bool} → rest ≡ false → (o || rest) ≡ all → o ≡ all
+opens-end {o} q r = sym (or-false o) ∙ ap (λ z. o || z) (sym q) ∙ r
+
+pub weighed-is : {w : ℕ} {o : Bool} (a : Action) → w ≡ weight a → o ≡ open? a → record { weight = w; opens = o } ≡ weighedOf a
+weighed-is a p q = λ i. record { weight = p i; opens = q i }
+
+pub leaf : (img : List ℕ) (n : ℕ) (it : Child) → Parts img n it → it .count ≤ 0 → record { weight = it .own; opens = it .opens } ≡ weighedOf (tree img n)
+leaf img n it w h = let e = children-end img (it .at) (it .count) h in weighed-is (tree img n) (omega (arith, e .0, w .weighs)) (opens-end (e .1) (w .opens))
+
+-- a child that has children of its own weighs 1 by itself
+pub parts-one : (img : List ℕ) (n : ℕ) (it : Child) → Parts img n it → (it .count ≡ 0 → ⊥) → Parts img n (record { own = 1; opens = it .opens; at = it .at; count = it .count })
+parts-one img n it p h = record { words = p .words; one = λ z. refl; weighs = omega (arith, p .weighs, p .one (omega (arith, h))); opens = p .opens }
+
+-- a list and one more: lower, open, weight
+pub every-one : (t : ℕ → Bool) (z : ℕ) → every t (z ∷ []) ≡ t z
+unfolding every
+every-one t z = and-true (t z)
+
+pub every-last : (t : ℕ → Bool) (ks : List ℕ) (z : ℕ) → every t (ks ++ z ∷ []) ≡ (every t ks && t z)
+unfolding every
+every-last t [] z = and-true (t z)
+every-last t (k ∷ ks) z = rw (every-last t ks z) (and-assoc (t k) (every t ks) (t z))
+
+module _ (t : ℕ → Action) where
+  pub shut-last : (ks : List ℕ) (z : ℕ) → shutButLast (named t (ks ++ z ∷ [])) ≡ not (someOpen (named t ks))
+  unfolding named shutButLast open?
+  shut-last [] z = refl
+  shut-last (k ∷ []) z = and-true (not (open? (t k))) ∙ ap not (sym (or-false (open? (t k))))
+  shut-last (k ∷ (j ∷ ks)) z = ap (λ b. not (open? (t k)) && b) (shut-last (j ∷ ks) z) ∙ sym (not-or (open? (t k)) (someOpen (named t (j ∷ ks))))
+
+  pub weights-last : (ks : List ℕ) (z : ℕ) → weights (named t (ks ++ z ∷ [])) ≡ weights (named t ks) + weight (t z)
+  unfolding named weight
+  weights-last [] z = omega arith
+  weights-last (k ∷ ks) z = omega (arith, weights-last ks z)
+
+-- the entries of a MultipleActions as words one after the other
+pub entries-at : (img : List ℕ) (r l first count : ℕ) → Placed img r l → entries img first count ≡ wordsFrom img (l + 2 * first) count
+entries-at img r l first count p = entries-words img first count ∙ ap (λ k. wordsFrom img (k + 2 * first) count) (sym (p .second))
+
+-- a HoldTap's hold and tap are its last two words
+pub pair-words : (img : List ℕ) (r l n : ℕ) → Placed img r l → wordsFrom img (r + 8 * n + 4) 2 ≡ fieldOf img n 4 ∷ fieldOf img n 6 ∷ []
+unfolding wordsFrom fieldOf
+pair-words img r l n p =
+    let s : recordsAt img + 8 * n + 4 + 2 ≡ recordsAt img + 8 * n + 6 = omega arith in
+    rw (p .first, s)
+
+-- a good record by itself and its children: a MultipleActions, a HoldTap, and one that has none
+module _ (img : List ℕ) (r l n : ℕ) (p : Placed img r l) (f : Formed img n) (g : Good img n) where
+  pub many-parts : {first count : ℕ} → fieldOf img n 0 ≡ 4 → first ≡ fieldOf img n 2 → count ≡ fieldOf img n 4 → Parts img n (record { own = 1; opens = false; at = l + 2 * first; count = count })
+  unfolding actionOf listEnd childrenIn meaning weight open?
+  many-parts e a b =
+      let m : Meant img n (code.MultipleActions (fieldOf img n 2) (fieldOf img n 4)) = meant img n g (sym (action-inside img n (f .inside))) (rw e) in
+      let w = entries-at img r l (fieldOf img n 2) (fieldOf img n 4) p in
+      rw (a, b)
+      (record {
+        words = record { inside = omega (arith, m .listed, p .second, p .framed .whole); few = omega (arith, m .listed, p .framed .entries); lower = rw (← w) (m .lower) };
+        one = λ h. refl;
+        weighs = rw (← w) (sym (ap weight (m .is)));
+        opens = rw (← w) (sym (ap open? (m .is)));
+      })
+
+  pub pair-parts : fieldOf img n 0 ≡ 7 → Parts img n (record { own = 1; opens = true; at = r + 8 * n + 4; count = 2 })
+  unfolding actionOf childrenIn meaning named weight open?
+  pair-parts e =
+      let m : Meant img n (code.HoldTap (fieldOf img n 2) (fieldOf img n 4) (fieldOf img n 6)) = meant img n g (sym (action-inside img n (f .inside))) (rw e) in
+      let w = pair-words img r l n p in
+      record {
+        words = record { inside = omega (arith, f .inside, p .first, p .framed .whole, p .framed .list-at); few = omega arith; lower = rw w (m .lower) };
+        one = λ h. refl;
+        weighs = rw w (omega (arith, ap weight (m .is)));
+        opens = sym (ap open? (m .is));
+      }
+
+pub child-words-tail : (img : List ℕ) (n at count : ℕ) → 0 < count → ChildWords img n at count → ChildWords img n (at + 2) (count - 1)
+child-words-tail img n at count h r = record { inside = omega (arith, r .inside); few = omega (arith, r .few); lower = words-tail img at count (λ k. ltb k n) h (r .lower) }
+
+-- the words of any other kind: b counts the codes of a MultipleKeyCodes, and is 0 else
+unused : (e k a b c : ℕ) → form e k a b c ≡ true → k < 7 → (k ≡ 3 → ⊥) → (k ≡ 4 → ⊥) → b ≡ 0
+unfolding form
+unused e k a b c f h h3 h4 = go (leb k 1) (eqb k 2) (leb k 4) (leb k 6) refl refl refl refl f
+  where
+    go : (p q r s : Bool) → leb k 1 ≡ p → eqb k 2 ≡ q → leb k 4 ≡ r → leb k 6 ≡ s → cond p (eqb (a + b + c) 0) (cond q (eqb (b + c) 0) (cond r (leb (a + b) e && eqb c 0) (cond s (eqb (b + c) 0) (eqb k 7)))) ≡ true → b ≡ 0
+    go true q r s ep eq er es t = omega (arith, eqb-true (a + b + c) 0 t)
+    go false true r s ep eq er es t = omega (arith, eqb-true (b + c) 0 t)
+    go false false true s ep eq er es t = absurd (omega (arith, leb-false k 1 ep, eqb-false k 2 eq, leb-true k 4 er, h3, h4))
+    go false false false true ep eq er es t = omega (arith, eqb-true (b + c) 0 t)
+    go false false false false ep eq er es t = absurd (omega (arith, eqb-true k 7 t))
+
+-- no kind is above 7
+pub seven : (e k a b c : ℕ) → form e k a b c ≡ true → 7 ≤ k → k ≡ 7
+unfolding form
+seven e k a b c f h = eqb-true k 7 (rw (lt-leb k 1 (omega arith), ne-eqb k 2 (λ t. absurd (omega arith)), lt-leb k 4 (omega arith), lt-leb k 6 (omega arith)) at f)
+
+plain : (img : List ℕ) (n : ℕ) → Formed img n → Good img n → fieldOf img n 0 < 7 → (fieldOf img n 0 ≡ 4 → ⊥) → (weight (tree img n) ≡ 1 + fieldOf img n 4) × (open? (tree img n) ≡ false)
+unfolding formGood meaning open? weight
+plain img n f g h h4 =
+    let none : (fieldOf img n 0 ≡ 3 → ⊥) → (1 ≡ 1 + fieldOf img n 4) × (false ≡ false) = λ h3. (omega (arith, unused _ _ _ _ _ (f .form) h h3 h4), refl) in
+    rw (meant img n g (sym (action-inside img n (f .inside))) refl .is)
+    (by-kind (λ x. (weight (meaning img (tree img) n x) ≡ 1 + fieldOf img n 4) × (open? (meaning img (tree img) n x) ≡ false)) (fieldOf img n 0) (fieldOf img n 2) (fieldOf img n 4) (fieldOf img n 6)
+    none (λ e. none (λ t. absurd (omega arith))) (λ e. none (λ t. absurd (omega arith))) (λ e. (omega (arith, length-entries img (fieldOf img n 2) (fieldOf img n 4)), refl)) (λ e. absurd (h4 e)) (λ e. none (λ t. absurd (omega arith))) (λ e. none (λ t. absurd (omega arith))) (λ e. absurd (omega arith)))
+
+pub plain-parts : (img : List ℕ) (n w : ℕ) → Formed img n → Good img n → fieldOf img n 0 < 7 → (fieldOf img n 0 ≡ 4 → ⊥) → w ≡ fieldOf img n 4 → Parts img n (record { own = 1 + w; opens = false; at = 0; count = 0 })
+unfolding every wordsFrom named weight open?
+plain-parts img n w f g h h4 e =
+    let both = plain img n f g h h4 in
+    record { words = record { inside = omega arith; few = omega arith; lower = refl }; one = λ h. absurd (omega arith); weighs = omega (arith, e, both .0); opens = sym (both .1) }

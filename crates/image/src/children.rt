@@ -1,0 +1,154 @@
+// The children of a record, which are the records that it names: what they weigh, and which is open. Document 01, "The table
+// image".
+// Assumes nothing.
+use super::words::field;
+use super::words::word;
+ghost use mathlib.Core.Path.{_≡_};
+ghost use mathlib.Core.Bool.{_||_};
+ghost use Rattle.image.specs.Inside.{Placed, Formed, wordsFrom, weighedOf, childrenOf, Parts, WeighAsked, ChildrenAsked};
+ghost use Rattle.image.specs.Tree.{tree};
+ghost use Rattle.image.specs.Sound.{Good};
+
+// A record as the one that names it meets it: what it weighs by itself, whether that makes it open, and the words that number
+// its own children: so many, from a byte offset.
+pub(crate) struct Child {
+    pub own: usize,
+    pub opens: bool,
+    pub at: usize,
+    pub count: usize,
+}
+
+// A record with all its children: its weight, and whether it is open.
+pub(crate) struct Weighed {
+    pub weight: usize,
+    pub opens: bool,
+}
+
+// The children of a record: whether all are lower than it, and if so whether one is open, and what they weigh.
+pub(crate) struct Children {
+    pub lower: bool,
+    pub opens: bool,
+    pub weight: usize,
+}
+
+// One is not lower: nothing more is asked of them.
+const NOT_LOWER: Children = Children {
+    lower: false,
+    opens: false,
+    weight: 0,
+};
+
+fn either(a: bool, b: bool) -> bool
+    ensures { λ r. ⌜ r ≡ (a || b) ⌝ }
+{
+    if a { true } else { b }
+}
+
+// Record n, which is good, each word that it takes read once. The children of a MultipleActions are its entries, and those
+// of a HoldTap its own last two words, hold and tap. The word b of any other is 0 but in a MultipleKeyCodes, where it is the
+// count.
+fn child_at(image: &[u8], records_at: usize, list_at: usize, n: usize) -> Child
+    requires { ⌜ Placed (now image) «records_at» «list_at» × Formed (now image) n × Good (now image) n ⌝ }
+    ensures { λ r. ⌜ Parts (now (image .entry)) n r ⌝ }
+{
+    let kind = field(image, records_at, n, 0);
+    let b = field(image, records_at, n, 4) as usize;
+    if kind == 4 {
+        let first = field(image, records_at, n, 2) as usize;
+        return Child {
+            own: 1,
+            opens: false,
+            at: list_at + 2 * first,
+            count: b,
+        };
+    }
+    if kind < 7 {
+        return Child {
+            own: 1 + b,
+            opens: false,
+            at: 0,
+            count: 0,
+        };
+    }
+    Child {
+        own: 1,
+        opens: true,
+        at: records_at + 8 * n + 4,
+        count: 2,
+    }
+}
+
+// The weight of record n, which is good, and whether it is open: it weighs 1 and is open or not by itself, and the rest by
+// recursion over its children, which are lower. A child that has none of its own is no call.
+fn weigh(
+    image: &[u8],
+    records_at: usize,
+    list_at: usize,
+    n: usize,
+    alone: bool,
+    at: usize,
+    count: usize,
+) -> Weighed
+    requires { ⌜ WeighAsked (now image) «records_at» «list_at» n alone at count ⌝ }
+    ensures { λ r. ⌜ r ≡ weighedOf (tree (now (image .entry)) n) ⌝ }
+{
+    let mut weight = 1;
+    let mut opens = alone;
+    let mut from = at;
+    let mut left = count;
+    while 0 < left {
+        let k = word(image, from) as usize;
+        let it = child_at(image, records_at, list_at, k);
+        from += 2;
+        left -= 1;
+        if it.count == 0 {
+            weight += it.own;
+            opens = either(opens, it.opens);
+            continue;
+        }
+        let whole = weigh(image, records_at, list_at, k, it.opens, it.at, it.count);
+        weight += whole.weight;
+        opens = either(opens, whole.opens);
+    }
+    Weighed { weight, opens }
+}
+
+// The children of record n, which so many words from a byte offset number: the one pass over them.
+pub(crate) fn weigh_children(
+    image: &[u8],
+    records_at: usize,
+    list_at: usize,
+    n: usize,
+    at: usize,
+    count: usize,
+) -> Children
+    requires { ⌜ ChildrenAsked (now image) «records_at» «list_at» n at count ⌝ }
+    ensures { λ r. ⌜ r ≡ childrenOf (now (image .entry)) n (wordsFrom (now (image .entry)) at count) ⌝ }
+{
+    let mut weight = 0;
+    let mut opens = false;
+    let mut from = at;
+    let mut left = count;
+    while 0 < left {
+        let k = word(image, from) as usize;
+        if n <= k {
+            return NOT_LOWER;
+        }
+        let it = child_at(image, records_at, list_at, k);
+        from += 2;
+        left -= 1;
+        if it.count == 0 {
+            weight += it.own;
+            opens = either(opens, it.opens);
+            continue;
+        }
+        let whole = weigh(image, records_at, list_at, k, it.opens, it.at, it.count);
+        weight += whole.weight;
+        opens = either(opens, whole.opens);
+    }
+    Children {
+        lower: true,
+        opens,
+        weight,
+    }
+}

@@ -1,0 +1,28 @@
+-- Changing a report is true exactly if it differs: `specs/Keyboard.antt`. Assumes nothing.
+use Prim.Native.Nat.{ℕ}
+use mathlib.Core.Bool.{true, false}
+use mathlib.Core.Path.{_≡_}
+use native.Mathlib.Omega.{arith}
+use Rattle.lists.specs.Lists.{alike}
+use Rattle.lists.proofs.Laws.{alike-self, alike-not}
+use Rattle.codes.specs.declared.report.KbHidReport.{KbHidReport}
+use Rattle.keyboard.specs.Keyboard.{reported, ExactlyIfDiffers}
+use Rattle.keyboard.specs.declared.Keyboard.{Keyboard}
+
+equal-none : (k : Keyboard) (report : KbHidReport) → k .report .bytes ≡ report .bytes → reported k report .changed ≡ false
+unfolding reported
+equal-none k report e =
+    let same : alike (k .report .bytes) (report .bytes) ≡ true = rw e (alike-self (report .bytes)) in
+    rw same
+
+differs-some : (k : Keyboard) (report : KbHidReport) → (k .report .bytes ≡ report .bytes → ⊥) → reported k report .changed ≡ true
+unfolding reported
+differs-some k report differs = rw (alike-not (k .report .bytes) (report .bytes) differs)
+
+pub exactly-if-differs : ExactlyIfDiffers
+unfolding ExactlyIfDiffers
+exactly-if-differs k report =
+    record {
+      changed-differs = λ is e. let none = equal-none k report e in let z : _≡_ {A = ℕ} 0 1 = cc in absurd (omega arith);
+      differs-changed = differs-some k report;
+    }

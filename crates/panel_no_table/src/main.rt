@@ -1,0 +1,4 @@
+// `panel` where there is no `table.img`: it writes nothing to standard output. Assumes nothing.
+fn main() {
+    panel_body::run();
+}

@@ -1,4 +1,0 @@
-// `panel` where there is no `table.img`: it writes nothing to standard output. Assumes nothing.
-fn main() {
-    panelio::run();
-}

@@ -1,4 +1,0 @@
-// `panel` on odd lines: most cannot be read, are answered with `?` and change nothing. Assumes nothing.
-fn main() {
-    panelio::run();
-}
