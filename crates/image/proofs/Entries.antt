@@ -92,37 +92,50 @@ module _ (l : ℕ → Action) (img : List ℕ) (e n : ℕ) where
   unfolding named
   named-none h = rw (entries-none img e n h)
 
--- one word, and those after it
-module _ (img : List ℕ) (at n : ℕ) where
-  words-step : 0 < n → wordsFrom img at n ≡ wordAt img at ∷ wordsFrom img (at + 2) (n - 1)
+-- of so many words from a byte offset, those after the first i
+abbrev pub wordsAfter : List ℕ → ℕ → ℕ → ℕ → List ℕ
+wordsAfter img at n i = wordsFrom img (at + 2 * i) (n - i)
+
+pub words-all : (img : List ℕ) (at n : ℕ) → wordsAfter img at n 0 ≡ wordsFrom img at n
+words-all img at n =
+    let s : at + 2 * 0 ≡ at = omega arith in
+    let k : n - 0 ≡ n = omega arith in
+    rw (s, k)
+
+-- one of them, and those after it: every loop over words rests on this
+module _ (img : List ℕ) (at n i : ℕ) where
+  words-step : i < n → wordsAfter img at n i ≡ wordAt img (at + 2 * i) ∷ wordsAfter img at n (i + 1)
   unfolding wordsFrom
   words-step h =
-      let k : n ≡ suc (n - 1) = omega arith in
-      ap (wordsFrom img at) k
+      let k : n - i ≡ suc (n - (i + 1)) = omega arith in
+      let s : at + 2 * i + 2 ≡ at + 2 * (i + 1) = omega arith in
+      ap (wordsFrom img (at + 2 * i)) k ∙ ap (λ x. wordAt img (at + 2 * i) ∷ wordsFrom img x (n - (i + 1))) s
 
-  pub words-head : (t : ℕ → Bool) → 0 < n → every t (wordsFrom img at n) ≡ true → t (wordAt img at) ≡ true
+  pub words-head : (t : ℕ → Bool) → i < n → every t (wordsAfter img at n i) ≡ true → t (wordAt img (at + 2 * i)) ≡ true
   words-head t h g = every-head t _ _ (rw (words-step h) at g) .0
 
-  pub words-tail : (t : ℕ → Bool) → 0 < n → every t (wordsFrom img at n) ≡ true → every t (wordsFrom img (at + 2) (n - 1)) ≡ true
+  pub words-tail : (t : ℕ → Bool) → i < n → every t (wordsAfter img at n i) ≡ true → every t (wordsAfter img at n (i + 1)) ≡ true
   words-tail t h g = every-head t _ _ (rw (words-step h) at g) .1
 
-  pub words-on : (l : ℕ → Action) → 0 < n → named l (wordsFrom img at n) ≡ l (wordAt img at) & named l (wordsFrom img (at + 2) (n - 1))
+  pub words-on : (l : ℕ → Action) → i < n → named l (wordsAfter img at n i) ≡ l (wordAt img (at + 2 * i)) & named l (wordsAfter img at n (i + 1))
   unfolding named
   words-on l h = rw (words-step h)
 
+  pub below-on : (t : ℕ → Bool) → i < n → t (wordAt img (at + 2 * i)) ≡ true → every t (wordsAfter img at n i) ≡ every t (wordsAfter img at n (i + 1))
+  unfolding every
+  below-on t h e = rw (words-step h, e)
+
+  pub below-no : (t : ℕ → Bool) → i < n → t (wordAt img (at + 2 * i)) ≡ false → every t (wordsAfter img at n i) ≡ false
+  unfolding every
+  below-no t h e = rw (words-step h, e)
+
+-- no word
+module _ (img : List ℕ) (at n : ℕ) where
   pub words-none : (l : ℕ → Action) → n ≤ 0 → named l (wordsFrom img at n) ≡ end
   unfolding named wordsFrom
   words-none l h =
       let k : n ≡ 0 = omega arith in
       rw k
-
-  pub below-on : (t : ℕ → Bool) → 0 < n → t (wordAt img at) ≡ true → every t (wordsFrom img at n) ≡ every t (wordsFrom img (at + 2) (n - 1))
-  unfolding every
-  below-on t h e = rw (words-step h, e)
-
-  pub below-no : (t : ℕ → Bool) → 0 < n → t (wordAt img at) ≡ false → every t (wordsFrom img at n) ≡ false
-  unfolding every
-  below-no t h e = rw (words-step h, e)
 
   pub below-none : (t : ℕ → Bool) → n ≤ 0 → every t (wordsFrom img at n) ≡ true
   unfolding every wordsFrom

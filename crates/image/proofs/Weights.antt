@@ -13,7 +13,7 @@ use Rattle.lists.proofs.Laws.{every-head}
 use Rattle.image.specs.Inside.{Placed, Formed, wordsFrom, ChildWords, childrenAt, weighedOf, childrenOf, Parts}
 use Rattle.image.specs.Words.{recordsAt, wordAt, fieldOf, entries}
 use Rattle.image.specs.Record.{actionOf, childrenIn, listEnd}
-use Rattle.image.specs.Tree.{Action, named, meaning, tree, open?, someOpen, shutButLast, weight, weights}
+use Rattle.image.specs.Tree.{Action, Actions, named, meaning, tree, open?, someOpen, shutButLast, weight, weights}
 use Rattle.image.specs.Check.{form, formGood}
 use Rattle.image.specs.declared.children.Child.{Child}
 use Rattle.image.specs.declared.children.Weighed.{Weighed}
@@ -21,7 +21,7 @@ use Rattle.image.specs.declared.children.Children.{Children}
 use Rattle.image.specs.Sound.{Good, Meant}
 use Rattle.image.specs.declared.record.Action.the-variants as code
 use Rattle.image.proofs.Tests.{and-true, and-assoc, or-false, not-or}
-use Rattle.image.proofs.Entries.{length-entries, entries-words, words-none, words-on, words-tail}
+use Rattle.image.proofs.Entries.{length-entries, entries-words, wordsAfter, words-head, words-none, words-on}
 use Rattle.image.proofs.Trees.{action-inside, meant, by-kind}
 
 -- lower records are good: each weighs at most 64
@@ -71,18 +71,21 @@ module _ (img : List ℕ) (n : ℕ) (ks : List ℕ) where
       go true t = omega (arith, says true s t e .1 refl .weight, few-weights img n f ks t)
       go false t = omega (arith, says false s t e .2 refl)
 
--- children one at a time: what is found of the first, and what is left
+-- children one at a time: of so many those after the first i, and what is found of the first of these and of the rest
+abbrev pub childrenAfter : List ℕ → ℕ → ℕ → ℕ → Actions
+childrenAfter img at n i = named (tree img) (wordsAfter img at n i)
+
 or-assoc : (a b c : Bool) → ((a || b) || c) ≡ (a || (b || c))
 or-assoc true b c = refl
 or-assoc false b c = refl
 
-pub children-step : (img : List ℕ) (at left k : ℕ) (h : Weighed) → 0 < left → k ≡ wordAt img at → h ≡ weighedOf (tree img k)
-    → (weights (childrenAt img at left) ≡ h .weight + weights (childrenAt img (at + 2) (left - 1))) × (someOpen (childrenAt img at left) ≡ (h .opens || someOpen (childrenAt img (at + 2) (left - 1))))
+pub children-step : (img : List ℕ) (at n i k : ℕ) (h : Weighed) → i < n → k ≡ wordAt img (at + 2 * i) → h ≡ weighedOf (tree img k)
+    → (weights (childrenAfter img at n i) ≡ h .weight + weights (childrenAfter img at n (i + 1))) × (someOpen (childrenAfter img at n i) ≡ (h .opens || someOpen (childrenAfter img at n (i + 1))))
 unfolding weight open?
-children-step img at left k h p e f =
-    let x : weighedOf (tree img (wordAt img at)) ≡ h = sym (f ∙ ap (λ k. weighedOf (tree img k)) e) in
-    let r = words-on img at left (tree img) p in
-    (ap weights r ∙ ap (λ (y : Weighed). y .weight + weights (childrenAt img (at + 2) (left - 1))) x, ap someOpen r ∙ ap (λ (y : Weighed). y .opens || someOpen (childrenAt img (at + 2) (left - 1))) x)
+children-step img at n i k h p e f =
+    let x : weighedOf (tree img (wordAt img (at + 2 * i))) ≡ h = sym (f ∙ ap (λ k. weighedOf (tree img k)) e) in
+    let r = words-on img at n i (tree img) p in
+    (ap weights r ∙ ap (λ (y : Weighed). y .weight + weights (childrenAfter img at n (i + 1))) x, ap someOpen r ∙ ap (λ (y : Weighed). y .opens || someOpen (childrenAfter img at n (i + 1))) x)
 
 pub children-end : (img : List ℕ) (at left : ℕ) → left ≤ 0 → (weights (childrenAt img at left) ≡ 0) × (someOpen (childrenAt img at left) ≡ false)
 unfolding weight open?
@@ -164,8 +167,8 @@ module _ (img : List ℕ) (r l n : ℕ) (p : Placed img r l) (f : Formed img n) 
         opens = sym (ap open? (m .is));
       }
 
-pub child-words-tail : (img : List ℕ) (n at count : ℕ) → 0 < count → ChildWords img n at count → ChildWords img n (at + 2) (count - 1)
-child-words-tail img n at count h r = record { inside = omega (arith, r .inside); few = omega (arith, r .few); lower = words-tail img at count (λ k. ltb k n) h (r .lower) }
+pub words-lower : (img : List ℕ) (n at count i : ℕ) → i < count → every (λ k. ltb k n) (wordsAfter img at count i) ≡ true → wordAt img (at + 2 * i) < n
+words-lower img n at count i h e = ltb-true _ n (words-head img at count i (λ k. ltb k n) h e)
 
 -- the words of any other kind: b counts the codes of a MultipleKeyCodes, and is 0 else
 unused : (e k a b c : ℕ) → form e k a b c ≡ true → k < 7 → (k ≡ 3 → ⊥) → (k ≡ 4 → ⊥) → b ≡ 0

@@ -94,13 +94,11 @@ fn weigh(
 {
     let mut weight = 1;
     let mut opens = alone;
-    let mut from = at;
-    let mut left = count;
-    while 0 < left {
-        let k = word(image, from) as usize;
+    let mut i = 0;
+    while i < count {
+        let k = word(image, at + 2 * i) as usize;
         let it = child_at(image, records_at, list_at, k);
-        from += 2;
-        left -= 1;
+        i += 1;
         if it.count == 0 {
             weight += it.own;
             opens = either(opens, it.opens);
@@ -127,16 +125,14 @@ pub(crate) fn weigh_children(
 {
     let mut weight = 0;
     let mut opens = false;
-    let mut from = at;
-    let mut left = count;
-    while 0 < left {
-        let k = word(image, from) as usize;
+    let mut i = 0;
+    while i < count {
+        let k = word(image, at + 2 * i) as usize;
         if n <= k {
             return NOT_LOWER;
         }
         let it = child_at(image, records_at, list_at, k);
-        from += 2;
-        left -= 1;
+        i += 1;
         if it.count == 0 {
             weight += it.own;
             opens = either(opens, it.opens);

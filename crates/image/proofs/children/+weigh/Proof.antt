@@ -1,16 +1,17 @@
--- `image::children::weigh` meets its contract. The invariant: what was found and what is left come to the record's weight, and to whether it is open. The words left fall in the loop, the record's number in the recursion. Assumes nothing.
-use Prim.Native.Nat.{ℕ, _+_, _-_, _<_}
-use Rattle.image.proofs.Entries.{words-head}
+-- `image::children::weigh` meets its contract. The invariant: what was found and what is left come to the record's weight, and to whether it is open. What is left falls in the loop, the record's number in the recursion. Assumes nothing.
+use Prim.Native.Nat.{ℕ, _+_, _-_, _*_, _<_}
+use Rattle.image.proofs.Entries.{wordsAfter, words-all, words-tail}
 use Rattle.image.proofs.Trees.{formed-lower}
-use Rattle.image.proofs.Weights.{children-step, children-end, child-words-tail, opens-on, opens-end, weighed-is, leaf, parts-one}
-use Rattle.image.specs.Inside.{ChildWords, childrenAt, weighedOf}
+use Rattle.image.proofs.Weights.{childrenAfter, children-step, children-end, words-lower, opens-on, opens-end, weighed-is, leaf, parts-one}
+use Rattle.image.specs.Inside.{weighedOf}
 use Rattle.image.specs.declared.children.Weighed.{Weighed}
 use Rattle.image.specs.Tree.{tree, weight, weights, open?, someOpen}
 use borrow.Author.Needs.{needs}
-use borrow.Author.Tests.{ltb-true}
 use denote.Ref.{now}
 use lib.Dec.{ltb}
-use mathlib.Core.Bool.{_||_}
+use lib.ListN.{length}
+use Rattle.lists.specs.Lists.{every}
+use mathlib.Core.Bool.{true, _||_}
 use mathlib.Core.List.{List}
 use mathlib.Core.Path.{_≡_}
 use native.Mathlib.Omega.{arith}
@@ -35,19 +36,24 @@ abbrev weigh-below : ℕ → In 1 weigh-kinds.ps
 weigh-below t = and 1 weigh-kinds.ps (falls 1 weigh-kinds.ps _<_ μ-weigh t) weigh.Pre
 
 abbrev weigh-Inv-loop : weigh-lts.InvT-loop
-weigh-Inv-loop image records-at list-at n alone at count w₀ o₀ from₀ left₀ w o from left =
-    ChildWords image n from left × (w + weights (childrenAt image from left) ≡ weight (tree image n)) × ((o || someOpen (childrenAt image from left)) ≡ open? (tree image n))
+weigh-Inv-loop image records-at list-at n alone at count w₀ o₀ i₀ w o i =
+    (every (λ k. ltb k n) (wordsAfter image at count i) ≡ true)
+    × (w + weights (childrenAfter image at count i) ≡ weight (tree image n))
+    × ((o || someOpen (childrenAfter image at count i)) ≡ open? (tree image n))
 
 abbrev weigh-μ-loop : weigh-lts.MeasureT-loop
-weigh-μ-loop image records-at list-at n alone at count w₀ o₀ from₀ left₀ w o from left = left
+weigh-μ-loop image records-at list-at n alone at count w₀ o₀ i₀ w o i = count - i
 
 -- what the functions called promise
 abbrev claims : ℕ → weigh-lts.Claims
 claims t = (word-reads.Asked, word-reads.Learnt, child-at-reads.Asked, child-at-reads.Learnt, either-reads.Asked, either-reads.Learnt, weigh-below t, weigh.Post)
 
--- the stages: the start, a word read, and the record that it numbers met
+-- the stages: the start, a turn of the loop, a word read, and the record that it numbers met
 abbrev Start : ℕ → Type 0
 Start t = weigh-lts.Start (claims t) (weigh-at t) weigh.Post weigh-Inv-loop weigh-μ-loop
+
+abbrev Turn : ℕ → Type 0
+Turn t = weigh-lts.In-loop (claims t) (weigh-at t) weigh.Post weigh-Inv-loop weigh-μ-loop
 
 abbrev Read : ℕ → Type 0
 Read t = weigh-lts.After-word (claims t) (weigh-at t) weigh.Post weigh-Inv-loop weigh-μ-loop
@@ -64,35 +70,46 @@ image t c = now (start t c .args .image)
 -- the record that a word numbers is lower
 low : (t : ℕ) (c : Read t) → c .word .result < start t c .args .n
 low t c =
-    let n = start t c .args .n in
+    let a = start t c .args in
     let l = c .before .before .loop in
-    omega (arith, ltb-true _ n (words-head (image t c) (l .from) (l .left) (λ k. ltb k n) (c .before .loop-test .taken) (l .inv .0 .lower)), c .word .ensures)
+    omega (arith, words-lower (image t c) (a .n) (a .at) (a .count) (l .i) (c .before .loop-test .taken) (l .inv .0), c .word .ensures)
 
 -- what is left falls by what is found
-step : (t : ℕ) (c : Known t) (h : Weighed) → h ≡ weighedOf (tree (image t (c .before)) (c .before .word .result)) → let r = c .before in let l = r .before .before .loop in let img = image t r in
-    (weights (childrenAt img (l .from) (l .left)) ≡ h .weight + weights (childrenAt img (l .from + 2) (l .left - 1))) × (someOpen (childrenAt img (l .from) (l .left)) ≡ (h .opens || someOpen (childrenAt img (l .from + 2) (l .left - 1))))
+step : (t : ℕ) (c : Known t) (h : Weighed) → h ≡ weighedOf (tree (image t (c .before)) (c .before .word .result)) → let r = c .before in let a = start t r .args in let i = r .before .before .loop .i in let img = image t r in
+    (weights (childrenAfter img (a .at) (a .count) i) ≡ h .weight + weights (childrenAfter img (a .at) (a .count) (i + 1))) × (someOpen (childrenAfter img (a .at) (a .count) i) ≡ (h .opens || someOpen (childrenAfter img (a .at) (a .count) (i + 1))))
 step t c h e =
     let r = c .before in
-    children-step (image t r) _ _ (r .word .result) h (r .before .loop-test .taken) (r .word .ensures) e
+    children-step (image t r) _ _ _ (r .word .result) h (r .before .loop-test .taken) (r .word .ensures) e
 
 -- a child that has none of its own
 found : (t : ℕ) (c : Known t) → c .child-at .result .count ≡ 0 → record { weight = c .child-at .result .own; opens = c .child-at .result .opens } ≡ weighedOf (tree (image t (c .before)) (c .before .word .result))
 found t c e = leaf _ _ _ (c .child-at .ensures) (omega (arith, e))
 
 weigh-loop-holds : (t : ℕ) → weigh-lts.Need-loop-holds (claims t) (weigh-at t) weigh.Post weigh-Inv-loop weigh-μ-loop
-weigh-loop-holds t c = let w = c .before .pre .1 .3 in (w .words, w .weighs, w .opens)
+weigh-loop-holds t c =
+    let s = c .before in
+    let a = s .args in
+    let w = s .pre .1 .3 in
+    rw (words-all (now (a .image)) (a .at) (a .count)) (w .words .lower, w .weighs, w .opens)
+
+-- where a word is
+inside : (t : ℕ) (c : Turn t) → let a = c .before .before .before .args in a .at + 2 * c .before .loop .i + 1 < length (now (a .image))
+inside t c = omega (arith, c .loop-test .taken, c .before .before .before .pre .1 .3 .words .inside)
+
+weigh-mul-word : (t : ℕ) → weigh-lts.Need-mul-word (claims t) (weigh-at t) weigh.Post weigh-Inv-loop weigh-μ-loop
+weigh-mul-word t c = omega (arith, c .loop-test .taken, c .before .before .before .pre .1 .3 .words .few)
+
+weigh-add-word : (t : ℕ) → weigh-lts.Need-add-word (claims t) (weigh-at t) weigh.Post weigh-Inv-loop weigh-μ-loop
+weigh-add-word t c = omega (arith, inside t c)
 
 weigh-word-requires : (t : ℕ) → weigh-lts.Need-word-requires (claims t) (weigh-at t) weigh.Post weigh-Inv-loop weigh-μ-loop
-weigh-word-requires t c κs = omega (arith, c .loop-test .taken, c .before .loop .inv .0 .inside)
+weigh-word-requires t c κs = inside t c
 
 weigh-child-at-requires : (t : ℕ) → weigh-lts.Need-child-at-requires (claims t) (weigh-at t) weigh.Post weigh-Inv-loop weigh-μ-loop
 weigh-child-at-requires t c κs = let p = start t c .pre .1 in (p .0, formed-lower _ _ _ (p .1) (low t c), p .1 .before _ (low t c))
 
-weigh-add-from : (t : ℕ) → weigh-lts.Need-add-from (claims t) (weigh-at t) weigh.Post weigh-Inv-loop weigh-μ-loop
-weigh-add-from t c = let i = c .before .before in omega (arith, i .loop-test .taken, i .before .loop .inv .0 .inside)
-
-weigh-sub-left : (t : ℕ) → weigh-lts.Need-sub-left (claims t) (weigh-at t) weigh.Post weigh-Inv-loop weigh-μ-loop
-weigh-sub-left t c = omega (arith, c .before .before .loop-test .taken)
+weigh-add-i : (t : ℕ) → weigh-lts.Need-add-i (claims t) (weigh-at t) weigh.Post weigh-Inv-loop weigh-μ-loop
+weigh-add-i t c = let r = c .before in omega (arith, r .before .loop-test .taken, start t r .pre .1 .3 .words .few)
 
 weigh-add-weight : (t : ℕ) → weigh-lts.Need-add-weight (claims t) (weigh-at t) weigh.Post weigh-Inv-loop weigh-μ-loop
 weigh-add-weight t c =
@@ -110,7 +127,7 @@ weigh-loop-again t c =
     let i = k .before .before in
     let l = i .before .loop in
     let s = step t k _ (found t k (f .if1 .taken)) in
-    (child-words-tail _ _ _ _ (i .loop-test .taken) (l .inv .0), omega (arith, s .0, l .inv .1), opens-on (l .opens) (k .child-at .result .opens) _ (c .either .ensures) (s .1) (l .inv .2))
+    (words-tail _ _ _ _ _ (i .loop-test .taken) (l .inv .0), omega (arith, s .0, l .inv .1), opens-on (l .opens) (k .child-at .result .opens) _ (c .either .ensures) (s .1) (l .inv .2))
 
 weigh-weigh-requires : (t : ℕ) → weigh-lts.Need-weigh-requires (claims t) (weigh-at t) weigh.Post weigh-Inv-loop weigh-μ-loop
 weigh-weigh-requires t c κs =
@@ -135,14 +152,14 @@ weigh-loop-again-2 t c =
     let i = k .before .before in
     let l = i .before .loop in
     let s = step t k _ (f .weigh .ensures) in
-    (child-words-tail _ _ _ _ (i .loop-test .taken) (l .inv .0), omega (arith, s .0, l .inv .1), opens-on (l .opens) (f .weigh .result .opens) _ (c .either2 .ensures) (s .1) (l .inv .2))
+    (words-tail _ _ _ _ _ (i .loop-test .taken) (l .inv .0), omega (arith, s .0, l .inv .1), opens-on (l .opens) (f .weigh .result .opens) _ (c .either2 .ensures) (s .1) (l .inv .2))
 
 weigh-returns : (t : ℕ) → weigh-lts.Need-returns (claims t) (weigh-at t) weigh.Post weigh-Inv-loop weigh-μ-loop
 weigh-returns t c =
     let l = c .before .loop in
-    let s = c .before .before .before in
-    let e = children-end (now (s .args .image)) (l .from) (l .left) (c .loop-test .left) in
-    weighed-is (tree (now (s .args .image)) (s .args .n)) (omega (arith, e .0, l .inv .1)) (opens-end (e .1) (l .inv .2))
+    let a = c .before .before .before .args in
+    let e = children-end (now (a .image)) (a .at + 2 * l .i) (a .count - l .i) (omega (arith, c .loop-test .left)) in
+    weighed-is (tree (now (a .image)) (a .n)) (omega (arith, e .0, l .inv .1)) (opens-end (e .1) (l .inv .2))
 
 pub +weigh-spec : {M : Type 1} → statement M
-+weigh-spec = close μ-weigh λ t. weigh-lts.spec (claims t) (weigh-at t) weigh.Post weigh-Inv-loop weigh-μ-loop (weigh-loop-holds t) (weigh-word-requires t) (λ c. search needs) (weigh-child-at-requires t) (weigh-add-from t) (weigh-sub-left t) (weigh-add-weight t) (λ c κs. search needs) (weigh-loop-less t) (weigh-loop-again t) (weigh-weigh-requires t) (weigh-add-weight-2 t) (λ c κs. search needs) (weigh-loop-less-2 t) (weigh-loop-again-2 t) (weigh-returns t)
++weigh-spec = close μ-weigh λ t. weigh-lts.spec (claims t) (weigh-at t) weigh.Post weigh-Inv-loop weigh-μ-loop (weigh-loop-holds t) (weigh-mul-word t) (weigh-add-word t) (weigh-word-requires t) (λ c. search needs) (weigh-child-at-requires t) (weigh-add-i t) (weigh-add-weight t) (λ c κs. search needs) (weigh-loop-less t) (weigh-loop-again t) (weigh-weigh-requires t) (weigh-add-weight-2 t) (λ c κs. search needs) (weigh-loop-less-2 t) (weigh-loop-again-2 t) (weigh-returns t)

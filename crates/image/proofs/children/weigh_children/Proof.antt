@@ -1,8 +1,8 @@
 -- `image::children::weigh_children` meets its contract. The invariant: the words passed are lower, and what was found and what is left come to what all the children do. Assumes nothing.
-use Prim.Native.Nat.{ℕ, _*_, _+_, _-_, _≤_}
-use Rattle.image.proofs.Entries.{below-no, below-none, below-on}
+use Prim.Native.Nat.{ℕ, _*_, _+_, _-_, _<_, _≤_}
+use Rattle.image.proofs.Entries.{wordsAfter, words-all, below-no, below-none, below-on}
 use Rattle.image.proofs.Trees.{formed-lower}
-use Rattle.image.proofs.Weights.{children-step, children-end, opens-on, opens-end, leaf, parts-one, sum-no, sum-yes}
+use Rattle.image.proofs.Weights.{childrenAfter, children-step, children-end, opens-on, opens-end, leaf, parts-one, sum-no, sum-yes}
 use Rattle.image.specs.Inside.{wordsFrom, childrenAt, weighedOf}
 use Rattle.image.specs.Tree.{tree, weight, weights, someOpen}
 use Rattle.image.specs.Words.{wordAt}
@@ -21,15 +21,14 @@ use Rattle.image.proofs.children.weigh_children.Statement.{statement}
 use Rattle.image.proofs.children.weigh_children.Tie as tie
 
 abbrev Inv-loop : tie.InvT-loop
-Inv-loop image records-at list-at n at count w₀ o₀ from₀ left₀ w o from left =
-    (from + 2 * left ≤ length image)
-    × (w + 64 * left ≤ 64 * count)
-    × (every (λ k. ltb k n) (wordsFrom image at count) ≡ every (λ k. ltb k n) (wordsFrom image from left))
-    × (w + weights (childrenAt image from left) ≡ weights (childrenAt image at count))
-    × ((o || someOpen (childrenAt image from left)) ≡ someOpen (childrenAt image at count))
+Inv-loop image records-at list-at n at count w₀ o₀ i₀ w o i =
+    (w ≤ 64 * i)
+    × (every (λ k. ltb k n) (wordsFrom image at count) ≡ every (λ k. ltb k n) (wordsAfter image at count i))
+    × (w + weights (childrenAfter image at count i) ≡ weights (childrenAt image at count))
+    × ((o || someOpen (childrenAfter image at count i)) ≡ someOpen (childrenAt image at count))
 
 abbrev μ-loop : tie.MeasureT-loop
-μ-loop image records-at list-at n at count w₀ o₀ from₀ left₀ w o from left = left
+μ-loop image records-at list-at n at count w₀ o₀ i₀ w o i = count - i
 
 abbrev start : tie.In-loop Inv-loop μ-loop → tie.Start Inv-loop μ-loop
 start c = c .before .before .before
@@ -45,51 +44,60 @@ reading c = c .before .before .before
 light : (c : tie.After-child-at Inv-loop μ-loop) (h : Weighed) → h ≡ weighedOf (tree (image (reading c)) (c .before .before .word .result)) → h .weight ≤ 64
 light c h e = omega (arith, ap (λ (h : Weighed). h .weight) e, start (reading c) .pre .1 .before _ (c .before .if1 .left) .light)
 
-step : (c : tie.After-child-at Inv-loop μ-loop) (h : Weighed) → h ≡ weighedOf (tree (image (reading c)) (c .before .before .word .result)) → let i = reading c in let l = i .before .loop in let img = image i in
-    (weights (childrenAt img (l .from) (l .left)) ≡ h .weight + weights (childrenAt img (l .from + 2) (l .left - 1))) × (someOpen (childrenAt img (l .from) (l .left)) ≡ (h .opens || someOpen (childrenAt img (l .from + 2) (l .left - 1))))
+step : (c : tie.After-child-at Inv-loop μ-loop) (h : Weighed) → h ≡ weighedOf (tree (image (reading c)) (c .before .before .word .result)) → let t = reading c in let a = start t .args in let i = t .before .loop .i in let img = image t in
+    (weights (childrenAfter img (a .at) (a .count) i) ≡ h .weight + weights (childrenAfter img (a .at) (a .count) (i + 1))) × (someOpen (childrenAfter img (a .at) (a .count) i) ≡ (h .opens || someOpen (childrenAfter img (a .at) (a .count) (i + 1))))
 step c h e =
-    let i = reading c in
-    children-step (image i) _ _ (c .before .before .word .result) h (i .loop-test .taken) (c .before .before .word .ensures) e
+    let t = reading c in
+    children-step (image t) _ _ _ (c .before .before .word .result) h (t .loop-test .taken) (c .before .before .word .ensures) e
 
 -- a child that has none of its own
 found : (c : tie.After-child-at Inv-loop μ-loop) → c .child-at .result .count ≡ 0 → record { weight = c .child-at .result .own; opens = c .child-at .result .opens } ≡ weighedOf (tree (image (reading c)) (c .before .before .word .result))
 found c e = leaf _ _ _ (c .child-at .ensures) (omega (arith, e))
 
 -- and the test of the words passed goes on
-tested : (c : tie.Else1 Inv-loop μ-loop) → let i = c .before .before in let n = start i .args .n in let l = i .before .loop in every (λ k. ltb k n) (wordsFrom (image i) (start i .args .at) (start i .args .count)) ≡ every (λ k. ltb k n) (wordsFrom (image i) (l .from + 2) (l .left - 1))
+tested : (c : tie.Else1 Inv-loop μ-loop) → let t = c .before .before in let a = start t .args in every (λ k. ltb k (a .n)) (wordsFrom (image t) (a .at) (a .count)) ≡ every (λ k. ltb k (a .n)) (wordsAfter (image t) (a .at) (a .count) (t .before .loop .i + 1))
 tested c =
-    let i = c .before .before in
-    let n = start i .args .n in
-    i .before .loop .inv .2 ∙ below-on _ _ _ (λ k. ltb k n) (i .loop-test .taken) (lt-ltb (wordAt (image i) (i .before .loop .from)) n (omega (arith, c .if1 .left, c .before .word .ensures)))
+    let t = c .before .before in
+    let a = start t .args in
+    let l = t .before .loop in
+    l .inv .1 ∙ below-on _ _ _ _ (λ k. ltb k (a .n)) (t .loop-test .taken) (lt-ltb (wordAt (image t) (a .at + 2 * l .i)) (a .n) (omega (arith, c .if1 .left, c .before .word .ensures)))
 
 loop-holds : tie.Need-loop-holds Inv-loop μ-loop
-loop-holds c = (c .before .pre .2, omega arith, refl, omega arith, refl)
+loop-holds c = let a = c .before .args in rw (words-all (now (a .image)) (a .at) (a .count)) (omega arith, refl, omega arith, refl)
+
+-- where a word is
+inside : (c : tie.In-loop Inv-loop μ-loop) → let a = start c .args in a .at + 2 * c .before .loop .i + 1 < length (image c)
+inside c = omega (arith, c .loop-test .taken, start c .pre .2)
+
+mul-word : tie.Need-mul-word Inv-loop μ-loop
+mul-word c = omega (arith, c .loop-test .taken, start c .pre .3)
+
+add-word : tie.Need-add-word Inv-loop μ-loop
+add-word c = omega (arith, inside c)
 
 word-requires : tie.Need-word-requires Inv-loop μ-loop
-word-requires c κs = omega (arith, c .loop-test .taken, c .before .loop .inv .0)
+word-requires c κs = inside c
 
 returns : tie.Need-returns Inv-loop μ-loop
 returns c =
-    let i = c .before .before in
-    let n = start i .args .n in
-    sum-no _ _ _ (i .before .loop .inv .2 ∙ below-no _ _ _ (λ k. ltb k n) (i .loop-test .taken) (le-ltb (wordAt (image i) (i .before .loop .from)) n (omega (arith, c .if1 .taken, c .before .word .ensures))))
+    let t = c .before .before in
+    let a = start t .args in
+    let l = t .before .loop in
+    sum-no _ _ _ (l .inv .1 ∙ below-no _ _ _ _ (λ k. ltb k (a .n)) (t .loop-test .taken) (le-ltb (wordAt (image t) (a .at + 2 * l .i)) (a .n) (omega (arith, c .if1 .taken, c .before .word .ensures))))
 
 child-at-requires : tie.Need-child-at-requires Inv-loop μ-loop
 child-at-requires c κs =
     let p = start (c .before .before) .pre in
     (p .0, formed-lower _ _ _ (p .1) (c .if1 .left), p .1 .before _ (c .if1 .left))
 
-add-from : tie.Need-add-from Inv-loop μ-loop
-add-from c = let i = reading c in omega (arith, i .loop-test .taken, i .before .loop .inv .0)
-
-sub-left : tie.Need-sub-left Inv-loop μ-loop
-sub-left c = omega (arith, reading c .loop-test .taken)
+add-i : tie.Need-add-i Inv-loop μ-loop
+add-i c = let t = reading c in omega (arith, t .loop-test .taken, start t .pre .3)
 
 add-weight : tie.Need-add-weight Inv-loop μ-loop
 add-weight c =
     let k = c .before .before .before in
-    let i = reading k in
-    omega (arith, light k _ (found k (c .before .if2 .taken)), i .before .loop .inv .1, start i .pre .3)
+    let t = reading k in
+    omega (arith, light k _ (found k (c .before .if2 .taken)), t .before .loop .inv .0, t .loop-test .taken, start t .pre .3)
 
 loop-less : tie.Need-loop-less Inv-loop μ-loop
 loop-less c = omega (arith, reading (c .before .before .before .before) .loop-test .taken)
@@ -98,11 +106,9 @@ loop-again : tie.Need-loop-again Inv-loop μ-loop
 loop-again c =
     let f = c .before .before in
     let k = f .before .before in
-    let i = reading k in
-    let some = i .loop-test .taken in
-    let l = i .before .loop in
+    let l = reading k .before .loop in
     let e = found k (f .if2 .taken) in
-    (omega (arith, some, l .inv .0), omega (arith, some, light k _ e, l .inv .1), tested (k .before), omega (arith, step k _ e .0, l .inv .3), opens-on (l .opens) (k .child-at .result .opens) _ (c .either .ensures) (step k _ e .1) (l .inv .4))
+    (omega (arith, light k _ e, l .inv .0), tested (k .before), omega (arith, step k _ e .0, l .inv .2), opens-on (l .opens) (k .child-at .result .opens) _ (c .either .ensures) (step k _ e .1) (l .inv .3))
 
 weigh-requires : tie.Need-weigh-requires Inv-loop μ-loop
 weigh-requires c κs =
@@ -114,8 +120,8 @@ weigh-requires c κs =
 add-weight-2 : tie.Need-add-weight-2 Inv-loop μ-loop
 add-weight-2 c =
     let k = c .before .before .before .before in
-    let i = reading k in
-    omega (arith, light k _ (c .before .weigh .ensures), i .before .loop .inv .1, start i .pre .3)
+    let t = reading k in
+    omega (arith, light k _ (c .before .weigh .ensures), t .before .loop .inv .0, t .loop-test .taken, start t .pre .3)
 
 loop-less-2 : tie.Need-loop-less-2 Inv-loop μ-loop
 loop-less-2 c = omega (arith, reading (c .before .before .before .before .before) .loop-test .taken)
@@ -124,19 +130,18 @@ loop-again-2 : tie.Need-loop-again-2 Inv-loop μ-loop
 loop-again-2 c =
     let f = c .before .before in
     let k = f .before .before .before in
-    let i = reading k in
-    let some = i .loop-test .taken in
-    let l = i .before .loop in
+    let l = reading k .before .loop in
     let e = f .weigh .ensures in
-    (omega (arith, some, l .inv .0), omega (arith, some, light k _ e, l .inv .1), tested (k .before), omega (arith, step k _ e .0, l .inv .3), opens-on (l .opens) (f .weigh .result .opens) _ (c .either2 .ensures) (step k _ e .1) (l .inv .4))
+    (omega (arith, light k _ e, l .inv .0), tested (k .before), omega (arith, step k _ e .0, l .inv .2), opens-on (l .opens) (f .weigh .result .opens) _ (c .either2 .ensures) (step k _ e .1) (l .inv .3))
 
 returns-2 : tie.Need-returns-2 Inv-loop μ-loop
 returns-2 c =
     let l = c .before .loop in
     let a = c .before .before .before .args in
     let img = now (a .image) in
-    let e = children-end img (l .from) (l .left) (c .loop-test .left) in
-    sum-yes img (a .n) (wordsFrom img (a .at) (a .count)) (l .inv .2 ∙ below-none _ _ _ (λ k. ltb k (a .n)) (c .loop-test .left)) (opens-end (e .1) (l .inv .4)) (omega (arith, e .0, l .inv .3))
+    let none : a .count - l .i ≤ 0 = omega (arith, c .loop-test .left) in
+    let e = children-end img (a .at + 2 * l .i) (a .count - l .i) none in
+    sum-yes img (a .n) (wordsFrom img (a .at) (a .count)) (l .inv .1 ∙ below-none _ _ _ (λ k. ltb k (a .n)) none) (opens-end (e .1) (l .inv .3)) (omega (arith, e .0, l .inv .2))
 
 pub weigh-children-spec : {M : Type 1} → statement M
-weigh-children-spec = tie.close (tie.spec Inv-loop μ-loop loop-holds word-requires (λ c. search needs) returns child-at-requires add-from sub-left add-weight (λ c κs. search needs) loop-less loop-again weigh-requires add-weight-2 (λ c κs. search needs) loop-less-2 loop-again-2 returns-2)
+weigh-children-spec = tie.close (tie.spec Inv-loop μ-loop loop-holds mul-word add-word word-requires (λ c. search needs) returns child-at-requires add-i add-weight (λ c κs. search needs) loop-less loop-again weigh-requires add-weight-2 (λ c κs. search needs) loop-less-2 loop-again-2 returns-2)
