@@ -1,5 +1,6 @@
--- The cases of document 01, "Bench cases", that are marked P: what goes in and what comes out, as data, and one statement
--- over their list. What comes out is computed through the definitions that the public functions' contracts give.
+-- The cases of document 01, "Bench cases", that are marked P, and two of its "Easy errors": what goes in and what comes out,
+-- as data, and one statement over their lists. What comes out is computed through the definitions that the public functions'
+-- contracts give.
 -- Assumes nothing.
 use Prim.Native.Nat.{ℕ, _*_}
 use mathlib.Core.Path.{_≡_}
@@ -20,7 +21,7 @@ use Rattle.layout.specs.declared.notes.Way.{Way}
 use Rattle.layout.specs.declared.notes.Way.the-variants.{Tap, Hold}
 use Rattle.demands.specs.Runs.{Call, Tick, Enter}
 use Rattle.demands.specs.Public.{lentAll, replies, codesIn}
-use Rattle.demands.specs.Z.{z, lent}
+use Rattle.demands.specs.Z.{z, layered, lent}
 
 -- what goes in
 pub data Input : Type 0 where
@@ -151,6 +152,21 @@ cases =
     }
     ∷ []
 
+-- the easy errors that a case shuts out
+unfoldable pub easyErrors : List Case
+easyErrors =
+    -- with the second layer held a key's Trans inside a MultipleActions does nothing: 05 alone
+    record {
+      given = Calls layered (Enter (Press 0 0) ∷ Tick ∷ Enter (Press 0 1) ∷ Tick ∷ []);
+      gives = Answers (nothing ∷ acting (Press 0 0) [] [] ∷ nothing ∷ acting (Press 0 1) [] (0x05 ∷ []) ∷ []);
+    }
+    -- held by two keys the layers' sum is past the table: the key is NoOp, and not the default layer's 04
+    ∷ record {
+      given = Calls layered (Enter (Press 0 0) ∷ Enter (Press 0 2) ∷ Tick ∷ Tick ∷ Enter (Press 0 1) ∷ Tick ∷ []);
+      gives = Answers (nothing ∷ nothing ∷ acting (Press 0 0) [] [] ∷ acting (Press 0 2) [] [] ∷ nothing ∷ acting (Press 0 1) [] [] ∷ []);
+    }
+    ∷ []
+
 -- every one of them holds
 unfoldable pub Bench : Type 0
-Bench = AllHold cases
+Bench = AllHold cases × AllHold easyErrors
