@@ -27,4 +27,4 @@ use Rattle.demands.specs.Bench.{says, scans, outcome, Holds, AllHold, ca
 -- `call`, `run` and `ticks` are named for the edit `whole_queue_at_the_first_tick` alone: it computes, and the case fails
 pub bench : Bench
 unfolding every keep alike legal modifier modifierBit freePlace filled placed keyed pressedOf withCodes reportOf wordAt cellOf fieldOf entryOf entries actionOf actionAt codesIn childrenIn listEnd cellAt named meaning trees tree open? someOpen shutButLast opensLast weight treeIn rule orElse firstFault within countsGood offsetsGood headerGood headFault cellFault form formGood recordFault bodyFault faultOf answer checkOf isPicture isScan grown passed bounceStep eventAt changeAt changes written sizesGood bounceGood bounceState makingVerdict eventsVerdict ifFine eventsOf push pushCodes find verdict doAction decided held sum current pressed release act into released overflow entered event ticked tick codes notedMarks falling stateGood judgedOf answerOf layoutAfter buffered call run ticks step replied reply replies zOf layered lent says scans outcome Holds AllHold cases easyErrors Bench
-bench = ((refl, (refl, (refl, (refl, (refl, (refl, (refl, (refl, (refl, (refl, (refl, (refl, tt)))))))))))), (refl, (refl, tt)))
+bench = ((refl, (refl, (refl, (refl, (refl, (refl, (refl, (refl, (refl, (refl, (refl, (refl, tt)))))))))))), (refl, (refl, (refl, tt))))

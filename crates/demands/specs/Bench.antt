@@ -1,4 +1,4 @@
--- The cases of document 01, "Bench cases", that are marked P, and two of its "Easy errors": what goes in and what comes out,
+-- The cases of document 01, "Bench cases", that are marked P, and three of its "Easy errors": what goes in and what comes out,
 -- as data, and one statement over their lists. What comes out is computed through the definitions that the public functions'
 -- contracts give.
 -- Assumes nothing.
@@ -155,8 +155,13 @@ cases =
 -- the easy errors that a case shuts out
 unfoldable pub easyErrors : List Case
 easyErrors =
-    -- with the second layer held a key's Trans inside a MultipleActions does nothing: 05 alone
+    -- Z: the release that decides a tap stays queued, and is acted on at the next tick: the key does not stick
     record {
+      given = Calls z (Enter (Press 0 0) ∷ Tick ∷ Enter (Release 0 0) ∷ Tick ∷ []);
+      gives = Answers (nothing ∷ acting (Press 0 0) [] [] ∷ deciding ((origin, Tap) ∷ []) (0x2C ∷ []) ∷ acting (Release 0 0) [] [] ∷ []);
+    }
+    -- with the second layer held a key's Trans inside a MultipleActions does nothing: 05 alone
+    ∷ record {
       given = Calls layered (Enter (Press 0 0) ∷ Tick ∷ Enter (Press 0 1) ∷ Tick ∷ []);
       gives = Answers (nothing ∷ acting (Press 0 0) [] [] ∷ nothing ∷ acting (Press 0 1) [] (0x05 ∷ []) ∷ []);
     }
