@@ -79,13 +79,18 @@ or-assoc : (a b c : Bool) → ((a || b) || c) ≡ (a || (b || c))
 or-assoc true b c = refl
 or-assoc false b c = refl
 
-pub children-step : (img : List ℕ) (at n i k : ℕ) (h : Weighed) → i < n → k ≡ wordAt img (at + 2 * i) → h ≡ weighedOf (tree img k)
-    → (weights (childrenAfter img at n i) ≡ h .weight + weights (childrenAfter img at n (i + 1))) × (someOpen (childrenAfter img at n i) ≡ (h .opens || someOpen (childrenAfter img at n (i + 1))))
+-- what is found of a child: what it weighs more than 1, and whether it is open
+pub record Found (img : List ℕ) (k more : ℕ) (o : Bool) : Type 0 where
+  pub weighs : 1 + more ≡ weight (tree img k)
+  pub opens : o ≡ open? (tree img k)
+
+-- what is left falls by what is found of the first
+pub children-step : (img : List ℕ) (at n i k : ℕ) {more : ℕ} {o : Bool} → i < n → k ≡ wordAt img (at + 2 * i) → Found img k more o
+    → (weights (childrenAfter img at n i) ≡ 1 + more + weights (childrenAfter img at n (i + 1))) × (someOpen (childrenAfter img at n i) ≡ (o || someOpen (childrenAfter img at n (i + 1))))
 unfolding weight open?
-children-step img at n i k h p e f =
-    let x : weighedOf (tree img (wordAt img (at + 2 * i))) ≡ h = sym (f ∙ ap (λ k. weighedOf (tree img k)) e) in
+children-step img at n i k p e f =
     let r = words-on img at n i (tree img) p in
-    (ap weights r ∙ ap (λ (y : Weighed). y .weight + weights (childrenAfter img at n (i + 1))) x, ap someOpen r ∙ ap (λ (y : Weighed). y .opens || someOpen (childrenAfter img at n (i + 1))) x)
+    (ap weights r ∙ rw (f .weighs, e), ap someOpen r ∙ rw (f .opens, e))
 
 pub children-end : (img : List ℕ) (at left : ℕ) → left ≤ 0 → (weights (childrenAt img at left) ≡ 0) × (someOpen (childrenAt img at left) ≡ false)
 unfolding weight open?
@@ -97,15 +102,19 @@ opens-on o b rest p q r = ap (λ z. z || rest) p ∙ or-assoc o b rest ∙ ap (�
 pub opens-end : {o rest all : Bool} → rest ≡ false → (o || rest) ≡ all → o ≡ all
 opens-end {o} q r = sym (or-false o) ∙ ap (λ z. o || z) (sym q) ∙ r
 
-pub weighed-is : {w : ℕ} {o : Bool} (a : Action) → w ≡ weight a → o ≡ open? a → record { weight = w; opens = o } ≡ weighedOf a
-weighed-is a p q = λ i. record { weight = p i; opens = q i }
+pub weighed-is : {w : ℕ} {o : Bool} (actions : Actions) → w ≡ weights actions → o ≡ someOpen actions → record { weight = w; opens = o } ≡ weighedOf actions
+weighed-is actions p q = λ i. record { weight = p i; opens = q i }
 
-pub leaf : (img : List ℕ) (n : ℕ) (it : Child) → Parts img n it → it .count ≤ 0 → record { weight = it .own; opens = it .opens } ≡ weighedOf (tree img n)
-leaf img n it w h = let e = children-end img (it .at) (it .count) h in weighed-is (tree img n) (omega (arith, e .0, w .weighs)) (opens-end (e .1) (w .opens))
+-- a child that has no children of its own, and one that has, when these are weighed
+pub leaf : (img : List ℕ) (k : ℕ) (it : Child) → Parts img k it → it .count ≡ 0 → Found img k (it .b) (it .opens)
+leaf img k it p e = record { weighs = p .alone e; opens = opens-end (children-end img (it .at) (it .count) (omega (arith, e)) .1) (p .opens) }
 
--- a child that has children of its own weighs 1 by itself
-pub parts-one : (img : List ℕ) (n : ℕ) (it : Child) → Parts img n it → (it .count ≡ 0 → ⊥) → Parts img n (record { own = 1; opens = it .opens; at = it .at; count = it .count })
-parts-one img n it p h = record { words = p .words; one = λ z. refl; weighs = omega (arith, p .weighs, p .one (omega (arith, h))); opens = p .opens }
+pub parent : (img : List ℕ) (k : ℕ) (it : Child) (s : Weighed) {o : Bool} → Parts img k it → (it .count ≡ 0 → ⊥) → s ≡ weighedOf (childrenAt img (it .at) (it .count)) → o ≡ (it .opens || s .opens) → Found img k (s .weight) o
+parent img k it s p h e q =
+    record {
+      weighs = omega (arith, ap (λ (s : Weighed). s .weight) e, p .weighs (omega (arith, h)));
+      opens = q ∙ ap (λ (s : Weighed). it .opens || s .opens) e ∙ p .opens;
+    }
 
 -- a list and one more: lower, open, weight
 pub every-one : (t : ℕ → Bool) (z : ℕ) → every t (z ∷ []) ≡ t z
@@ -142,28 +151,29 @@ pair-words img r l n p =
 
 -- a good record by itself and its children: a MultipleActions, a HoldTap, and one that has none
 module _ (img : List ℕ) (r l n : ℕ) (p : Placed img r l) (f : Formed img n) (g : Good img n) where
-  pub many-parts : {first count : ℕ} → fieldOf img n 0 ≡ 4 → first ≡ fieldOf img n 2 → count ≡ fieldOf img n 4 → Parts img n (record { own = 1; opens = false; at = l + 2 * first; count = count })
+  pub many-parts : {first count : ℕ} → fieldOf img n 0 ≡ 4 → first ≡ fieldOf img n 2 → count ≡ fieldOf img n 4 → Parts img n (record { b = count; opens = false; at = l + 2 * first; count = count })
   unfolding actionOf listEnd childrenIn meaning weight open?
   many-parts e a b =
       let m : Meant img n (code.MultipleActions (fieldOf img n 2) (fieldOf img n 4)) = meant img n g (sym (action-inside img n (f .inside))) (rw e) in
       let w = entries-at img r l (fieldOf img n 2) (fieldOf img n 4) p in
+      let s : 1 + weights (childrenAt img (l + 2 * fieldOf img n 2) (fieldOf img n 4)) ≡ weight (tree img n) = rw (← w) (sym (ap weight (m .is))) in
       rw (a, b)
       (record {
         words = record { inside = omega (arith, m .listed, p .second, p .framed .whole); few = omega (arith, m .listed, p .framed .entries); lower = rw (← w) (m .lower) };
-        one = λ h. refl;
-        weighs = rw (← w) (sym (ap weight (m .is)));
+        alone = λ h. omega (arith, h, s, children-end img (l + 2 * fieldOf img n 2) (fieldOf img n 4) (omega (arith, h)) .0);
+        weighs = λ h. s;
         opens = rw (← w) (sym (ap open? (m .is)));
       })
 
-  pub pair-parts : fieldOf img n 0 ≡ 7 → Parts img n (record { own = 1; opens = true; at = r + 8 * n + 4; count = 2 })
+  pub pair-parts : (b : ℕ) → fieldOf img n 0 ≡ 7 → Parts img n (record { b = b; opens = true; at = r + 8 * n + 4; count = 2 })
   unfolding actionOf childrenIn meaning named weight open?
-  pair-parts e =
+  pair-parts b e =
       let m : Meant img n (code.HoldTap (fieldOf img n 2) (fieldOf img n 4) (fieldOf img n 6)) = meant img n g (sym (action-inside img n (f .inside))) (rw e) in
       let w = pair-words img r l n p in
       record {
         words = record { inside = omega (arith, f .inside, p .first, p .framed .whole, p .framed .list-at); few = omega arith; lower = rw w (m .lower) };
-        one = λ h. refl;
-        weighs = rw w (omega (arith, ap weight (m .is)));
+        alone = λ h. absurd (omega (arith, h));
+        weighs = λ h. rw w (omega (arith, ap weight (m .is)));
         opens = sym (ap open? (m .is));
       }
 
@@ -195,8 +205,8 @@ plain img n f g h h4 =
     (by-kind (λ x. (weight (meaning img (tree img) n x) ≡ 1 + fieldOf img n 4) × (open? (meaning img (tree img) n x) ≡ false)) (fieldOf img n 0) (fieldOf img n 2) (fieldOf img n 4) (fieldOf img n 6)
     none (λ e. none (λ t. absurd (omega arith))) (λ e. none (λ t. absurd (omega arith))) (λ e. (omega (arith, length-entries img (fieldOf img n 2) (fieldOf img n 4)), refl)) (λ e. absurd (h4 e)) (λ e. none (λ t. absurd (omega arith))) (λ e. none (λ t. absurd (omega arith))) (λ e. absurd (omega arith)))
 
-pub plain-parts : (img : List ℕ) (n w : ℕ) → Formed img n → Good img n → fieldOf img n 0 < 7 → (fieldOf img n 0 ≡ 4 → ⊥) → w ≡ fieldOf img n 4 → Parts img n (record { own = 1 + w; opens = false; at = 0; count = 0 })
+pub plain-parts : (img : List ℕ) (n w : ℕ) → Formed img n → Good img n → fieldOf img n 0 < 7 → (fieldOf img n 0 ≡ 4 → ⊥) → w ≡ fieldOf img n 4 → Parts img n (record { b = w; opens = false; at = 0; count = 0 })
 unfolding every wordsFrom named weight open?
 plain-parts img n w f g h h4 e =
     let both = plain img n f g h h4 in
-    record { words = record { inside = omega arith; few = omega arith; lower = refl }; one = λ h. absurd (omega arith); weighs = omega (arith, e, both .0); opens = sym (both .1) }
+    record { words = record { inside = omega arith; few = omega arith; lower = refl }; alone = λ z. omega (arith, e, both .0); weighs = λ h. absurd (omega (arith, h)); opens = sym (both .1) }

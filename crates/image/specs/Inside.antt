@@ -10,7 +10,7 @@ use lib.Dec.{ltb}
 use Rattle.lists.specs.Lists.{every}
 use Rattle.image.specs.Words.{wordAt, recordsOf, entriesOf, recordsAt, listAt}
 use Rattle.image.specs.Record.{actionAt}
-use Rattle.image.specs.Tree.{Action, Actions, named, tree, open?, someOpen, weight, weights}
+use Rattle.image.specs.Tree.{Actions, named, tree, open?, someOpen, weight, weights}
 use Rattle.image.specs.Check.{formGood}
 use Rattle.image.specs.Sound.{Framed, Good}
 use Rattle.image.specs.declared.record.Action.the-variants.{MultipleKeyCodes, MultipleActions}
@@ -45,9 +45,9 @@ pub record ChildWords (img : List ℕ) (n at count : ℕ) : Type 0 where
 abbrev pub childrenAt : List ℕ → ℕ → ℕ → Actions
 childrenAt img at count = named (tree img) (wordsFrom img at count)
 
--- a record with all its children: its weight, and whether it is open
-abbrev pub weighedOf : Action → Weighed
-weighedOf action = record { weight = weight action; opens = open? action }
+-- children with all that they name: what they weigh, and whether one is open
+abbrev pub weighedOf : Actions → Weighed
+weighedOf actions = record { weight = weights actions; opens = someOpen actions }
 
 -- the children of record n: whether all are lower, and if so whether one is open, and what they weigh
 unfoldable pub childrenOf : List ℕ → ℕ → List ℕ → Children
@@ -56,17 +56,16 @@ childrenOf img n ks =
     (record { lower = true; opens = someOpen (named (tree img) ks); weight = weights (named (tree img) ks) })
     (record { lower = false; opens = false; weight = 0 })
 
--- record n is what it is by itself, and its children; one that has children weighs 1 by itself
+-- record n is what it is by itself, and its children: without any it weighs 1 and its word b, else 1 and what they weigh
 pub record Parts (img : List ℕ) (n : ℕ) (it : Child) : Type 0 where
   pub words : ChildWords img n (it .at) (it .count)
-  pub one : 0 < it .count → it .own ≡ 1
-  pub weighs : it .own + weights (childrenAt img (it .at) (it .count)) ≡ weight (tree img n)
+  pub alone : it .count ≡ 0 → 1 + it .b ≡ weight (tree img n)
+  pub weighs : 0 < it .count → 1 + weights (childrenAt img (it .at) (it .count)) ≡ weight (tree img n)
   pub opens : (it .opens || someOpen (childrenAt img (it .at) (it .count))) ≡ open? (tree img n)
 
--- what is asked where record n is weighed, which is good: whether it is open by itself, and the words of its children
-abbrev pub WeighAsked : List ℕ → ℕ → ℕ → ℕ → Bool → ℕ → ℕ → Type 0
-WeighAsked img records-at list-at n alone at count =
-    Placed img records-at list-at × Formed img n × Good img n × Parts img n (record { own = 1; opens = alone; at = at; count = count })
+-- what is asked where the children of record n are weighed: so many words from a byte offset number them, all lower
+abbrev pub WeighAsked : List ℕ → ℕ → ℕ → ℕ → ℕ → ℕ → Type 0
+WeighAsked img records-at list-at n at count = Placed img records-at list-at × Formed img n × ChildWords img n at count
 
 -- where the children of record n are, which so many words from a byte offset number
 abbrev pub ChildrenAsked : List ℕ → ℕ → ℕ → ℕ → ℕ → ℕ → Type 0

@@ -5,20 +5,20 @@ use super::words::field;
 use super::words::word;
 ghost use mathlib.Core.Path.{_≡_};
 ghost use mathlib.Core.Bool.{_||_};
-ghost use Rattle.image.specs.Inside.{Placed, Formed, wordsFrom, weighedOf, childrenOf, Parts, WeighAsked, ChildrenAsked};
-ghost use Rattle.image.specs.Tree.{tree};
+ghost use Rattle.image.specs.Inside.{Placed, Formed, wordsFrom, childrenAt, weighedOf, childrenOf, Parts, WeighAsked, ChildrenAsked};
 ghost use Rattle.image.specs.Sound.{Good};
 
-// A record as the one that names it meets it: what it weighs by itself, whether that makes it open, and the words that number
-// its own children: so many, from a byte offset.
+// A record as the one that names it meets it: its word b, whether it is open by itself, and the words that number its own
+// children: so many, from a byte offset. One that has none weighs 1 + b, which counts the codes of a MultipleKeyCodes and is 0
+// in any other.
 pub(crate) struct Child {
-    pub own: usize,
+    pub b: usize,
     pub opens: bool,
     pub at: usize,
     pub count: usize,
 }
 
-// A record with all its children: its weight, and whether it is open.
+// Children of one record, with all that they name: what they weigh, and whether one is open.
 pub(crate) struct Weighed {
     pub weight: usize,
     pub opens: bool,
@@ -45,8 +45,7 @@ fn either(a: bool, b: bool) -> bool
 }
 
 // Record n, which is good, each word that it takes read once. The children of a MultipleActions are its entries, and those
-// of a HoldTap its own last two words, hold and tap. The word b of any other is 0 but in a MultipleKeyCodes, where it is the
-// count.
+// of a HoldTap its own last two words, hold and tap.
 fn child_at(image: &[u8], records_at: usize, list_at: usize, n: usize) -> Child
     requires { ⌜ Placed (now image) «records_at» «list_at» × Formed (now image) n × Good (now image) n ⌝ }
     ensures { λ r. ⌜ Parts (now (image .entry)) n r ⌝ }
@@ -56,7 +55,7 @@ fn child_at(image: &[u8], records_at: usize, list_at: usize, n: usize) -> Child
     if kind == 4 {
         let first = field(image, records_at, n, 2) as usize;
         return Child {
-            own: 1,
+            b,
             opens: false,
             at: list_at + 2 * first,
             count: b,
@@ -64,54 +63,54 @@ fn child_at(image: &[u8], records_at: usize, list_at: usize, n: usize) -> Child
     }
     if kind < 7 {
         return Child {
-            own: 1 + b,
+            b,
             opens: false,
             at: 0,
             count: 0,
         };
     }
     Child {
-        own: 1,
+        b,
         opens: true,
         at: records_at + 8 * n + 4,
         count: 2,
     }
 }
 
-// The weight of record n, which is good, and whether it is open: it weighs 1 and is open or not by itself, and the rest by
-// recursion over its children, which are lower. A child that has none of its own is no call.
+// What the children of record n weigh, which so many words from a byte offset number, all lower, and whether one is open. Each
+// weighs 1, and more by its codes, or by recursion over its own children. A child that has none is no call.
 fn weigh(
     image: &[u8],
     records_at: usize,
     list_at: usize,
     n: usize,
-    alone: bool,
     at: usize,
     count: usize,
 ) -> Weighed
-    requires { ⌜ WeighAsked (now image) «records_at» «list_at» n alone at count ⌝ }
-    ensures { λ r. ⌜ r ≡ weighedOf (tree (now (image .entry)) n) ⌝ }
+    requires { ⌜ WeighAsked (now image) «records_at» «list_at» n at count ⌝ }
+    ensures { λ r. ⌜ r ≡ weighedOf (childrenAt (now (image .entry)) at count) ⌝ }
 {
-    let mut weight = 1;
-    let mut opens = alone;
+    let mut weight = count;
+    let mut opens = false;
     let mut i = 0;
     while i < count {
         let k = word(image, at + 2 * i) as usize;
         let it = child_at(image, records_at, list_at, k);
         i += 1;
         if it.count == 0 {
-            weight += it.own;
+            weight += it.b;
             opens = either(opens, it.opens);
             continue;
         }
-        let whole = weigh(image, records_at, list_at, k, it.opens, it.at, it.count);
-        weight += whole.weight;
-        opens = either(opens, whole.opens);
+        let under = weigh(image, records_at, list_at, k, it.at, it.count);
+        weight += under.weight;
+        opens = either(opens, either(it.opens, under.opens));
     }
     Weighed { weight, opens }
 }
 
-// The children of record n, which so many words from a byte offset number: the one pass over them.
+// The children of record n, which so many words from a byte offset number: the one pass over them, which asks of each whether
+// it is lower, and weighs it as `weigh` does.
 pub(crate) fn weigh_children(
     image: &[u8],
     records_at: usize,
@@ -123,7 +122,7 @@ pub(crate) fn weigh_children(
     requires { ⌜ ChildrenAsked (now image) «records_at» «list_at» n at count ⌝ }
     ensures { λ r. ⌜ r ≡ childrenOf (now (image .entry)) n (wordsFrom (now (image .entry)) at count) ⌝ }
 {
-    let mut weight = 0;
+    let mut weight = count;
     let mut opens = false;
     let mut i = 0;
     while i < count {
@@ -134,13 +133,13 @@ pub(crate) fn weigh_children(
         let it = child_at(image, records_at, list_at, k);
         i += 1;
         if it.count == 0 {
-            weight += it.own;
+            weight += it.b;
             opens = either(opens, it.opens);
             continue;
         }
-        let whole = weigh(image, records_at, list_at, k, it.opens, it.at, it.count);
-        weight += whole.weight;
-        opens = either(opens, whole.opens);
+        let under = weigh(image, records_at, list_at, k, it.at, it.count);
+        weight += under.weight;
+        opens = either(opens, either(it.opens, under.opens));
     }
     Children {
         lower: true,

@@ -1,19 +1,18 @@
--- `image::children::weigh` meets its contract. The invariant: what was found and what is left come to the record's weight, and to whether it is open. What is left falls in the loop, the record's number in the recursion. Assumes nothing.
-use Prim.Native.Nat.{ℕ, _+_, _-_, _*_, _<_}
+-- `image::children::weigh` meets its contract. The invariant: what was found and what is left come to what all the children do, where each of those left was counted as 1. What is left falls in the loop, the record's number in the recursion. Assumes nothing.
+use Prim.Native.Nat.{ℕ, _+_, _-_, _*_, _<_, _≤_}
 use Rattle.image.proofs.Entries.{wordsAfter, words-all, words-tail}
 use Rattle.image.proofs.Trees.{formed-lower}
-use Rattle.image.proofs.Weights.{childrenAfter, children-step, children-end, words-lower, opens-on, opens-end, weighed-is, leaf, parts-one}
-use Rattle.image.specs.Inside.{weighedOf}
-use Rattle.image.specs.declared.children.Weighed.{Weighed}
-use Rattle.image.specs.Tree.{tree, weight, weights, open?, someOpen}
+use Rattle.image.proofs.Weights.{childrenAfter, children-step, children-end, words-lower, opens-on, opens-end, weighed-is, Found, leaf, parent}
+use Rattle.image.specs.Inside.{childrenAt}
+use Rattle.image.specs.Tree.{weights, someOpen}
 use borrow.Author.Needs.{needs}
 use denote.Ref.{now}
 use lib.Dec.{ltb}
 use lib.ListN.{length}
 use Rattle.lists.specs.Lists.{every}
-use mathlib.Core.Bool.{true, _||_}
+use mathlib.Core.Bool.{Bool, true, false, _||_}
 use mathlib.Core.List.{List}
-use mathlib.Core.Path.{_≡_}
+use mathlib.Core.Path.{_≡_, refl}
 use native.Mathlib.Omega.{arith}
 use borrow.Fn.Kinds.{In}
 use borrow.Fn.PlainCycle.{Measures, is, falls, and}
@@ -36,13 +35,14 @@ abbrev weigh-below : ℕ → In 1 weigh-kinds.ps
 weigh-below t = and 1 weigh-kinds.ps (falls 1 weigh-kinds.ps _<_ μ-weigh t) weigh.Pre
 
 abbrev weigh-Inv-loop : weigh-lts.InvT-loop
-weigh-Inv-loop image records-at list-at n alone at count w₀ o₀ i₀ w o i =
-    (every (λ k. ltb k n) (wordsAfter image at count i) ≡ true)
-    × (w + weights (childrenAfter image at count i) ≡ weight (tree image n))
-    × ((o || someOpen (childrenAfter image at count i)) ≡ open? (tree image n))
+weigh-Inv-loop image records-at list-at n at count w₀ o₀ i₀ w o i =
+    (w ≤ count + 63 * i)
+    × (every (λ k. ltb k n) (wordsAfter image at count i) ≡ true)
+    × (w + weights (childrenAfter image at count i) ≡ weights (childrenAt image at count) + (count - i))
+    × ((o || someOpen (childrenAfter image at count i)) ≡ someOpen (childrenAt image at count))
 
 abbrev weigh-μ-loop : weigh-lts.MeasureT-loop
-weigh-μ-loop image records-at list-at n alone at count w₀ o₀ i₀ w o i = count - i
+weigh-μ-loop image records-at list-at n at count w₀ o₀ i₀ w o i = count - i
 
 -- what the functions called promise
 abbrev claims : ℕ → weigh-lts.Claims
@@ -72,32 +72,30 @@ low : (t : ℕ) (c : Read t) → c .word .result < start t c .args .n
 low t c =
     let a = start t c .args in
     let l = c .before .before .loop in
-    omega (arith, words-lower (image t c) (a .n) (a .at) (a .count) (l .i) (c .before .loop-test .taken) (l .inv .0), c .word .ensures)
+    omega (arith, words-lower (image t c) (a .n) (a .at) (a .count) (l .i) (c .before .loop-test .taken) (l .inv .1), c .word .ensures)
 
--- what is left falls by what is found
-step : (t : ℕ) (c : Known t) (h : Weighed) → h ≡ weighedOf (tree (image t (c .before)) (c .before .word .result)) → let r = c .before in let a = start t r .args in let i = r .before .before .loop .i in let img = image t r in
-    (weights (childrenAfter img (a .at) (a .count) i) ≡ h .weight + weights (childrenAfter img (a .at) (a .count) (i + 1))) × (someOpen (childrenAfter img (a .at) (a .count) i) ≡ (h .opens || someOpen (childrenAfter img (a .at) (a .count) (i + 1))))
-step t c h e =
-    let r = c .before in
-    children-step (image t r) _ _ _ (r .word .result) h (r .before .loop-test .taken) (r .word .ensures) e
+-- what is found of it: it is light, and what is left falls by it
+abbrev FoundAt : (t : ℕ) → Known t → ℕ → Bool → Type 0
+FoundAt t c = Found (image t (c .before)) (c .before .word .result)
 
--- a child that has none of its own
-found : (t : ℕ) (c : Known t) → c .child-at .result .count ≡ 0 → record { weight = c .child-at .result .own; opens = c .child-at .result .opens } ≡ weighedOf (tree (image t (c .before)) (c .before .word .result))
-found t c e = leaf _ _ _ (c .child-at .ensures) (omega (arith, e))
+light : (t : ℕ) (c : Known t) {more : ℕ} {o : Bool} → FoundAt t c more o → more ≤ 63
+light t c f = let r = c .before in omega (arith, f .weighs, start t r .pre .1 .1 .before _ (low t r) .light)
+
+step : (t : ℕ) (c : Known t) {more : ℕ} {o : Bool} → FoundAt t c more o → let r = c .before in let a = start t r .args in let i = r .before .before .loop .i in let img = image t r in
+    (weights (childrenAfter img (a .at) (a .count) i) ≡ 1 + more + weights (childrenAfter img (a .at) (a .count) (i + 1))) × (someOpen (childrenAfter img (a .at) (a .count) i) ≡ (o || someOpen (childrenAfter img (a .at) (a .count) (i + 1))))
+step t c f = let r = c .before in children-step (image t r) _ _ _ (r .word .result) (r .before .loop-test .taken) (r .word .ensures) f
 
 weigh-loop-holds : (t : ℕ) → weigh-lts.Need-loop-holds (claims t) (weigh-at t) weigh.Post weigh-Inv-loop weigh-μ-loop
 weigh-loop-holds t c =
-    let s = c .before in
-    let a = s .args in
-    let w = s .pre .1 .3 in
-    rw (words-all (now (a .image)) (a .at) (a .count)) (w .words .lower, w .weighs, w .opens)
+    let a = c .before .args in
+    rw (words-all (now (a .image)) (a .at) (a .count)) (omega arith, c .before .pre .1 .2 .lower, omega arith, refl)
 
 -- where a word is
 inside : (t : ℕ) (c : Turn t) → let a = c .before .before .before .args in a .at + 2 * c .before .loop .i + 1 < length (now (a .image))
-inside t c = omega (arith, c .loop-test .taken, c .before .before .before .pre .1 .3 .words .inside)
+inside t c = omega (arith, c .loop-test .taken, c .before .before .before .pre .1 .2 .inside)
 
 weigh-mul-word : (t : ℕ) → weigh-lts.Need-mul-word (claims t) (weigh-at t) weigh.Post weigh-Inv-loop weigh-μ-loop
-weigh-mul-word t c = omega (arith, c .loop-test .taken, c .before .before .before .pre .1 .3 .words .few)
+weigh-mul-word t c = omega (arith, c .loop-test .taken, c .before .before .before .pre .1 .2 .few)
 
 weigh-add-word : (t : ℕ) → weigh-lts.Need-add-word (claims t) (weigh-at t) weigh.Post weigh-Inv-loop weigh-μ-loop
 weigh-add-word t c = omega (arith, inside t c)
@@ -109,57 +107,60 @@ weigh-child-at-requires : (t : ℕ) → weigh-lts.Need-child-at-requires (claims
 weigh-child-at-requires t c κs = let p = start t c .pre .1 in (p .0, formed-lower _ _ _ (p .1) (low t c), p .1 .before _ (low t c))
 
 weigh-add-i : (t : ℕ) → weigh-lts.Need-add-i (claims t) (weigh-at t) weigh.Post weigh-Inv-loop weigh-μ-loop
-weigh-add-i t c = let r = c .before in omega (arith, r .before .loop-test .taken, start t r .pre .1 .3 .words .few)
+weigh-add-i t c = let r = c .before in omega (arith, r .before .loop-test .taken, start t r .pre .1 .2 .few)
 
 weigh-add-weight : (t : ℕ) → weigh-lts.Need-add-weight (claims t) (weigh-at t) weigh.Post weigh-Inv-loop weigh-μ-loop
 weigh-add-weight t c =
     let k = c .before .before .before in
     let r = k .before in
-    omega (arith, step t k _ (found t k (c .before .if1 .taken)) .0, r .before .before .loop .inv .1, start t r .pre .1 .2 .light)
+    omega (arith, light t k (leaf _ _ _ (k .child-at .ensures) (c .before .if1 .taken)), r .before .before .loop .inv .0, r .before .loop-test .taken, start t r .pre .1 .2 .few)
 
 weigh-loop-less : (t : ℕ) → weigh-lts.Need-loop-less (claims t) (weigh-at t) weigh.Post weigh-Inv-loop weigh-μ-loop
 weigh-loop-less t c = omega (arith, c .before .before .before .before .before .before .loop-test .taken)
+
+-- a turn: what was found before it and at it
+turn : (t : ℕ) (c : Known t) {more : ℕ} {o e : Bool} → FoundAt t c more o → let r = c .before in let a = start t r .args in let l = r .before .before .loop in
+    e ≡ (l .opens || o) → weigh-Inv-loop (image t r) (a .records-at) (a .list-at) (a .n) (a .at) (a .count) (a .count) false 0 (l .weight + more) e (l .i + 1)
+turn t c {more} {o} f q =
+    let i = c .before .before in
+    let l = i .before .loop in
+    let s = step t c f in
+    (omega (arith, light t c f, l .inv .0), words-tail _ _ _ _ _ (i .loop-test .taken) (l .inv .1), omega (arith, s .0, l .inv .2, i .loop-test .taken), opens-on (l .opens) o _ q (s .1) (l .inv .3))
 
 weigh-loop-again : (t : ℕ) → weigh-lts.Need-loop-again (claims t) (weigh-at t) weigh.Post weigh-Inv-loop weigh-μ-loop
 weigh-loop-again t c =
     let f = c .before .before in
     let k = f .before .before in
-    let i = k .before .before in
-    let l = i .before .loop in
-    let s = step t k _ (found t k (f .if1 .taken)) in
-    (words-tail _ _ _ _ _ (i .loop-test .taken) (l .inv .0), omega (arith, s .0, l .inv .1), opens-on (l .opens) (k .child-at .result .opens) _ (c .either .ensures) (s .1) (l .inv .2))
+    turn t k (leaf _ _ _ (k .child-at .ensures) (f .if1 .taken)) (c .either .ensures)
 
 weigh-weigh-requires : (t : ℕ) → weigh-lts.Need-weigh-requires (claims t) (weigh-at t) weigh.Post weigh-Inv-loop weigh-μ-loop
 weigh-weigh-requires t c κs =
     let k = c .before .before in
     let r = k .before in
     let p = start t r .pre in
-    (omega (arith, low t r, p .0), (p .1 .0, formed-lower _ _ _ (p .1 .1) (low t r), p .1 .1 .before _ (low t r), parts-one _ _ _ (k .child-at .ensures) (c .if1 .left)))
+    (omega (arith, low t r, p .0), (p .1 .0, formed-lower _ _ _ (p .1 .1) (low t r), k .child-at .ensures .words))
 
 weigh-add-weight-2 : (t : ℕ) → weigh-lts.Need-add-weight-2 (claims t) (weigh-at t) weigh.Post weigh-Inv-loop weigh-μ-loop
 weigh-add-weight-2 t c =
     let k = c .before .before .before .before in
     let r = k .before in
-    omega (arith, step t k _ (c .before .weigh .ensures) .0, r .before .before .loop .inv .1, start t r .pre .1 .2 .light)
+    omega (arith, light t k (parent _ _ _ _ (k .child-at .ensures) (c .before .before .if1 .left) (c .before .weigh .ensures) refl), r .before .before .loop .inv .0, r .before .loop-test .taken, start t r .pre .1 .2 .few)
 
 weigh-loop-less-2 : (t : ℕ) → weigh-lts.Need-loop-less-2 (claims t) (weigh-at t) weigh.Post weigh-Inv-loop weigh-μ-loop
-weigh-loop-less-2 t c = omega (arith, c .before .before .before .before .before .before .before .loop-test .taken)
+weigh-loop-less-2 t c = omega (arith, c .before .before .before .before .before .before .before .before .loop-test .taken)
 
 weigh-loop-again-2 : (t : ℕ) → weigh-lts.Need-loop-again-2 (claims t) (weigh-at t) weigh.Post weigh-Inv-loop weigh-μ-loop
 weigh-loop-again-2 t c =
-    let f = c .before .before in
+    let f = c .before .before .before in
     let k = f .before .before .before in
-    let i = k .before .before in
-    let l = i .before .loop in
-    let s = step t k _ (f .weigh .ensures) in
-    (words-tail _ _ _ _ _ (i .loop-test .taken) (l .inv .0), omega (arith, s .0, l .inv .1), opens-on (l .opens) (f .weigh .result .opens) _ (c .either2 .ensures) (s .1) (l .inv .2))
+    turn t k (parent _ _ _ _ (k .child-at .ensures) (f .before .if1 .left) (f .weigh .ensures) (c .before .either2 .ensures)) (c .either3 .ensures)
 
 weigh-returns : (t : ℕ) → weigh-lts.Need-returns (claims t) (weigh-at t) weigh.Post weigh-Inv-loop weigh-μ-loop
 weigh-returns t c =
     let l = c .before .loop in
     let a = c .before .before .before .args in
     let e = children-end (now (a .image)) (a .at + 2 * l .i) (a .count - l .i) (omega (arith, c .loop-test .left)) in
-    weighed-is (tree (now (a .image)) (a .n)) (omega (arith, e .0, l .inv .1)) (opens-end (e .1) (l .inv .2))
+    weighed-is (childrenAt (now (a .image)) (a .at) (a .count)) (omega (arith, e .0, l .inv .2, c .loop-test .left)) (opens-end (e .1) (l .inv .3))
 
 pub +weigh-spec : {M : Type 1} → statement M
-+weigh-spec = close μ-weigh λ t. weigh-lts.spec (claims t) (weigh-at t) weigh.Post weigh-Inv-loop weigh-μ-loop (weigh-loop-holds t) (weigh-mul-word t) (weigh-add-word t) (weigh-word-requires t) (λ c. search needs) (weigh-child-at-requires t) (weigh-add-i t) (weigh-add-weight t) (λ c κs. search needs) (weigh-loop-less t) (weigh-loop-again t) (weigh-weigh-requires t) (weigh-add-weight-2 t) (λ c κs. search needs) (weigh-loop-less-2 t) (weigh-loop-again-2 t) (weigh-returns t)
++weigh-spec = close μ-weigh λ t. weigh-lts.spec (claims t) (weigh-at t) weigh.Post weigh-Inv-loop weigh-μ-loop (weigh-loop-holds t) (weigh-mul-word t) (weigh-add-word t) (weigh-word-requires t) (λ c. search needs) (weigh-child-at-requires t) (weigh-add-i t) (weigh-add-weight t) (λ c κs. search needs) (weigh-loop-less t) (weigh-loop-again t) (weigh-weigh-requires t) (weigh-add-weight-2 t) (λ c κs. search needs) (λ c κs. search needs) (weigh-loop-less-2 t) (weigh-loop-again-2 t) (weigh-returns t)

@@ -37,7 +37,7 @@ unfolding formGood
 returns-3 c =
     let w = c .before .before in
     let s = start w in
-    pair-parts _ _ _ _ (s .pre .0) (s .pre .1) (s .pre .2) (seven _ _ _ _ _ (s .pre .1 .form) (omega (arith, c .if2 .left, w .before .field .ensures)))
+    pair-parts _ _ _ _ (s .pre .0) (s .pre .1) (s .pre .2) _ (seven _ _ _ _ _ (s .pre .1 .form) (omega (arith, c .if2 .left, w .before .field .ensures)))
 
 pub child-at-spec : {M : Type 1} → statement M
-child-at-spec = tie.close (tie.spec field-requires field-requires-2 (λ c. search needs) field-requires-3 (λ c. search needs) (λ c. search needs) (λ c. search needs) returns (λ c. search needs) returns-2 (λ c. search needs) (λ c. search needs) (λ c. search needs) returns-3)
+child-at-spec = tie.close (tie.spec field-requires field-requires-2 (λ c. search needs) field-requires-3 (λ c. search needs) (λ c. search needs) (λ c. search needs) returns returns-2 (λ c. search needs) (λ c. search needs) (λ c. search needs) returns-3)
