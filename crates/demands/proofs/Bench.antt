@@ -1,4 +1,4 @@
--- The P cases of document 01 hold, and those of its easy errors: each is computed from its bytes, calls, codes or scans.
+-- The P cases of document 01 hold, and those of its easy errors and of no table in use: each is computed from its bytes, calls, codes or scans.
 -- Assumes nothing.
 use mathlib.Core.Path.{refl}
 use Rattle.lists.specs.Lists.{every, keep, alike}
@@ -10,6 +10,7 @@ use Rattle.image.specs.Tree.{named, meaning, trees, tree, open?, someOpen, shut
 use Rattle.image.specs.Table.{treeIn}
 use Rattle.refusal.specs.Verdict.{rule, orElse, firstFault}
 use Rattle.image.specs.Check.{within, countsGood, offsetsGood, headerGood, headFault, cellFault, form, formGood, recordFault, bodyFault, faultOf, answer, checkOf}
+use Rattle.image.specs.Use.{areaFault, unlessFault, areaOf, choice, sourceOf}
 use Rattle.debounce.specs.Picture.{isPicture, isScan}
 use Rattle.debounce.specs.Step.{grown, passed, step as bounceStep}
 use Rattle.debounce.specs.Events.{eventAt, changeAt, changes, written}
@@ -22,9 +23,9 @@ use Rattle.layout.specs.Calls.{replied, judgedOf, answerOf, layoutAfter, buffer
 use Rattle.demands.specs.Runs.{call, run, ticks}
 use Rattle.demands.specs.Public.{step, reply, replies}
 use Rattle.demands.specs.Z.{zOf, layered, lent}
-use Rattle.demands.specs.Bench.{says, scans, outcome, Holds, AllHold, cases, easyErrors, Bench}
+use Rattle.demands.specs.Bench.{says, scans, outcome, Holds, AllHold, cases, easyErrors, noneInUse, Bench}
 
 -- `call`, `run` and `ticks` are named for the edit `whole_queue_at_the_first_tick` alone: it computes, and the case fails
 pub bench : Bench
-unfolding every keep alike legal modifier modifierBit freePlace filled placed keyed pressedOf withCodes reportOf wordAt cellOf fieldOf entryOf entries actionOf actionAt codesIn childrenIn listEnd cellAt named meaning trees tree open? someOpen shutButLast opensLast weight treeIn rule orElse firstFault within countsGood offsetsGood headerGood headFault cellFault form formGood recordFault bodyFault faultOf answer checkOf isPicture isScan grown passed bounceStep eventAt changeAt changes written sizesGood bounceGood bounceState makingVerdict eventsVerdict ifFine eventsOf push pushCodes find verdict doAction decided held sum current pressed release act into released overflow entered event ticked tick codes notedMarks falling stateGood judgedOf answerOf layoutAfter buffered call run ticks step replied reply replies zOf layered lent says scans outcome Holds AllHold cases easyErrors Bench
-bench = ((refl, (refl, (refl, (refl, (refl, (refl, (refl, (refl, (refl, (refl, (refl, (refl, tt)))))))))))), (refl, (refl, (refl, tt))))
+unfolding every keep alike legal modifier modifierBit freePlace filled placed keyed pressedOf withCodes reportOf wordAt cellOf fieldOf entryOf entries actionOf actionAt codesIn childrenIn listEnd cellAt named meaning trees tree open? someOpen shutButLast opensLast weight treeIn rule orElse firstFault within countsGood offsetsGood headerGood headFault cellFault form formGood recordFault bodyFault faultOf answer checkOf areaFault unlessFault areaOf choice sourceOf isPicture isScan grown passed bounceStep eventAt changeAt changes written sizesGood bounceGood bounceState makingVerdict eventsVerdict ifFine eventsOf push pushCodes find verdict doAction decided held sum current pressed release act into released overflow entered event ticked tick codes notedMarks falling stateGood judgedOf answerOf layoutAfter buffered call run ticks step replied reply replies zOf layered lent says scans outcome Holds AllHold cases easyErrors noneInUse Bench
+bench = ((refl, (refl, (refl, (refl, (refl, (refl, (refl, (refl, (refl, (refl, (refl, (refl, tt)))))))))))), (refl, (refl, (refl, tt))), (refl, tt))

@@ -1,9 +1,10 @@
--- The cases of document 01, "Bench cases", that are marked P, and three of its "Easy errors": what goes in and what comes out,
--- as data, and one statement over their lists. What comes out is computed through the definitions that the public functions'
--- contracts give.
+-- The cases of document 01, "Bench cases", that are marked P, three of its "Easy errors", and its "table in use" where there
+-- is none: what goes in and what comes out, as data, and one statement over their lists. What comes out is computed through
+-- the definitions that the public functions' contracts give.
 -- Assumes nothing.
 use Prim.Native.Nat.{ℕ, _*_}
 use mathlib.Core.Path.{_≡_}
+use mathlib.Core.Bool.{Bool, false}
 use mathlib.Core.List.{List, [], _∷_, _++_, map}
 use lib.ListN.{take, replicate}
 use Rattle.event.specs.declared.Coord.{Coord}
@@ -11,6 +12,7 @@ use Rattle.event.specs.declared.Event.{Event}
 use Rattle.event.specs.declared.Event.the-variants.{Release, Press}
 use Rattle.codes.specs.Report.{reportOf}
 use Rattle.image.specs.Check.{checkOf, toldOf}
+use Rattle.image.specs.Use.{sourceOf, sourceSaid}
 use Rattle.debounce.specs.Calls.{newReply, eventsReply}
 use Rattle.debounce.specs.declared.Debouncer.{Debouncer}
 use Rattle.layout.specs.Model.{fresh}
@@ -27,6 +29,8 @@ use Rattle.demands.specs.Z.{z, layered, lent}
 pub data Input : Type 0 where
   -- an image, for its check
   Check : List ℕ → Input
+  -- the operator's area and the built-in one
+  Areas : List ℕ → List ℕ → Input
   -- an image, and calls on a fresh layout over it, 64 bytes lent to them
   Calls : List ℕ → List Call → Input
   -- codes, for a report
@@ -50,7 +54,9 @@ pub record Scanned : Type 0 where
 -- what comes out
 pub data Output : Type 0 where
   -- the number and the place of the check's answer
-  Found : ℕ → ℕ → Output
+  CheckTold : ℕ → ℕ → Output
+  -- number and place, whether the stretch in use is the operator's, and how long it is
+  Used : ℕ → ℕ → Bool → ℕ → Output
   -- an answer for each call
   Answers : List Says → Output
   -- the report's bytes
@@ -77,7 +83,10 @@ scans (scan ∷ rest) d buffer =
     record { number = r .answer .number; events = events } ∷ scans rest (r .answer .values .1) (r .buffer)
 
 unfoldable pub outcome : Input → Output
-outcome (Check image) = let t = toldOf (checkOf image) in Found (t .number) (t .place)
+outcome (Check image) = let t = toldOf (checkOf image) in CheckTold (t .number) (t .place)
+outcome (Areas operator builtIn) =
+    let t = sourceSaid (sourceOf operator builtIn) in
+    Used (t .number) (t .place) (t .values .operator) (t .values .size)
 outcome (Calls image calls) = Answers (map says (replies image (lentAll lent calls) (pack fresh)))
 outcome (Codes codes) = Report (reportOf codes)
 outcome (Scans rows columns nb start list) =
@@ -114,9 +123,9 @@ events bytes = record { number = 0; events = bytes }
 unfoldable pub cases : List Case
 cases =
     -- Z is accepted; its first 51 bytes give 3; its first 15 give 1
-    record { given = Check z; gives = Found 0 0 }
-    ∷ record { given = Check (take 51 z); gives = Found 3 0 }
-    ∷ record { given = Check (take 15 z); gives = Found 1 0 }
+    record { given = Check z; gives = CheckTold 0 0 }
+    ∷ record { given = Check (take 51 z); gives = CheckTold 3 0 }
+    ∷ record { given = Check (take 15 z); gives = CheckTold 1 0 }
     -- Z, a press of (0,0), and three ticks
     ∷ record {
       given = Calls z (Enter (Press 0 0) ∷ Tick ∷ Tick ∷ Tick ∷ []);
@@ -172,6 +181,10 @@ easyErrors =
     }
     ∷ []
 
+-- Z cut short in both areas: there is no table in use, and the refusal is the operator's
+unfoldable pub noneInUse : List Case
+noneInUse = record { given = Areas (take 15 z) (take 51 z); gives = Used 1 0 false 0 } ∷ []
+
 -- every one of them holds
 unfoldable pub Bench : Type 0
-Bench = AllHold cases × AllHold easyErrors
+Bench = AllHold cases × AllHold easyErrors × AllHold noneInUse

@@ -80,12 +80,12 @@ or-assoc true b c = refl
 or-assoc false b c = refl
 
 -- what is found of a child: what it weighs more than 1, and whether it is open
-pub record Found (img : List ℕ) (k more : ℕ) (o : Bool) : Type 0 where
+pub record OfChild (img : List ℕ) (k more : ℕ) (o : Bool) : Type 0 where
   pub weighs : 1 + more ≡ weight (tree img k)
   pub opens : o ≡ open? (tree img k)
 
 -- what is left falls by what is found of the first
-pub children-step : (img : List ℕ) (at n i k : ℕ) {more : ℕ} {o : Bool} → i < n → k ≡ wordAt img (at + 2 * i) → Found img k more o
+pub children-step : (img : List ℕ) (at n i k : ℕ) {more : ℕ} {o : Bool} → i < n → k ≡ wordAt img (at + 2 * i) → OfChild img k more o
     → (weights (childrenAfter img at n i) ≡ 1 + more + weights (childrenAfter img at n (i + 1))) × (someOpen (childrenAfter img at n i) ≡ (o || someOpen (childrenAfter img at n (i + 1))))
 unfolding weight open?
 children-step img at n i k p e f =
@@ -106,10 +106,10 @@ pub weighed-is : {w : ℕ} {o : Bool} (actions : Actions) → w ≡ weights acti
 weighed-is actions p q = λ i. record { weight = p i; opens = q i }
 
 -- a child that has no children of its own, and one that has, when these are weighed
-pub leaf : (img : List ℕ) (k : ℕ) (it : Child) → Parts img k it → it .count ≡ 0 → Found img k (it .b) (it .opens)
+pub leaf : (img : List ℕ) (k : ℕ) (it : Child) → Parts img k it → it .count ≡ 0 → OfChild img k (it .b) (it .opens)
 leaf img k it p e = record { weighs = p .alone e; opens = opens-end (children-end img (it .at) (it .count) (omega (arith, e)) .1) (p .opens) }
 
-pub parent : (img : List ℕ) (k : ℕ) (it : Child) (s : Weighed) {o : Bool} → Parts img k it → (it .count ≡ 0 → ⊥) → s ≡ weighedOf (childrenAt img (it .at) (it .count)) → o ≡ (it .opens || s .opens) → Found img k (s .weight) o
+pub parent : (img : List ℕ) (k : ℕ) (it : Child) (s : Weighed) {o : Bool} → Parts img k it → (it .count ≡ 0 → ⊥) → s ≡ weighedOf (childrenAt img (it .at) (it .count)) → o ≡ (it .opens || s .opens) → OfChild img k (s .weight) o
 parent img k it s p h e q =
     record {
       weighs = omega (arith, ap (λ (s : Weighed). s .weight) e, p .weighs (omega (arith, h)));

@@ -90,6 +90,7 @@ fn weigh(
     requires { ⌜ WeighAsked (now image) «records_at» «list_at» n at count ⌝ }
     ensures { λ r. ⌜ r ≡ weighedOf (childrenAt (now (image .entry)) at count) ⌝ }
 {
+    // 1 for each
     let mut weight = count;
     let mut opens = false;
     let mut i = 0;
@@ -122,6 +123,7 @@ pub(crate) fn weigh_children(
     requires { ⌜ ChildrenAsked (now image) «records_at» «list_at» n at count ⌝ }
     ensures { λ r. ⌜ r ≡ childrenOf (now (image .entry)) n (wordsFrom (now (image .entry)) at count) ⌝ }
 {
+    // 1 for each
     let mut weight = count;
     let mut opens = false;
     let mut i = 0;

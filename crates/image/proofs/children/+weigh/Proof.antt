@@ -2,7 +2,7 @@
 use Prim.Native.Nat.{ℕ, _+_, _-_, _*_, _<_, _≤_}
 use Rattle.image.proofs.Entries.{wordsAfter, words-all, words-tail}
 use Rattle.image.proofs.Trees.{formed-lower}
-use Rattle.image.proofs.Weights.{childrenAfter, children-step, children-end, words-lower, opens-on, opens-end, weighed-is, Found, leaf, parent}
+use Rattle.image.proofs.Weights.{childrenAfter, children-step, children-end, words-lower, opens-on, opens-end, weighed-is, OfChild, leaf, parent}
 use Rattle.image.specs.Inside.{childrenAt}
 use Rattle.image.specs.Tree.{weights, someOpen}
 use borrow.Author.Needs.{needs}
@@ -75,13 +75,13 @@ low t c =
     omega (arith, words-lower (image t c) (a .n) (a .at) (a .count) (l .i) (c .before .loop-test .taken) (l .inv .1), c .word .ensures)
 
 -- what is found of it: it is light, and what is left falls by it
-abbrev FoundAt : (t : ℕ) → Known t → ℕ → Bool → Type 0
-FoundAt t c = Found (image t (c .before)) (c .before .word .result)
+abbrev OfThis : (t : ℕ) → Known t → ℕ → Bool → Type 0
+OfThis t c = OfChild (image t (c .before)) (c .before .word .result)
 
-light : (t : ℕ) (c : Known t) {more : ℕ} {o : Bool} → FoundAt t c more o → more ≤ 63
+light : (t : ℕ) (c : Known t) {more : ℕ} {o : Bool} → OfThis t c more o → more ≤ 63
 light t c f = let r = c .before in omega (arith, f .weighs, start t r .pre .1 .1 .before _ (low t r) .light)
 
-step : (t : ℕ) (c : Known t) {more : ℕ} {o : Bool} → FoundAt t c more o → let r = c .before in let a = start t r .args in let i = r .before .before .loop .i in let img = image t r in
+step : (t : ℕ) (c : Known t) {more : ℕ} {o : Bool} → OfThis t c more o → let r = c .before in let a = start t r .args in let i = r .before .before .loop .i in let img = image t r in
     (weights (childrenAfter img (a .at) (a .count) i) ≡ 1 + more + weights (childrenAfter img (a .at) (a .count) (i + 1))) × (someOpen (childrenAfter img (a .at) (a .count) i) ≡ (o || someOpen (childrenAfter img (a .at) (a .count) (i + 1))))
 step t c f = let r = c .before in children-step (image t r) _ _ _ (r .word .result) (r .before .loop-test .taken) (r .word .ensures) f
 
@@ -119,7 +119,7 @@ weigh-loop-less : (t : ℕ) → weigh-lts.Need-loop-less (claims t) (weigh-at t)
 weigh-loop-less t c = omega (arith, c .before .before .before .before .before .before .loop-test .taken)
 
 -- a turn: what was found before it and at it
-turn : (t : ℕ) (c : Known t) {more : ℕ} {o e : Bool} → FoundAt t c more o → let r = c .before in let a = start t r .args in let l = r .before .before .loop in
+turn : (t : ℕ) (c : Known t) {more : ℕ} {o e : Bool} → OfThis t c more o → let r = c .before in let a = start t r .args in let l = r .before .before .loop in
     e ≡ (l .opens || o) → weigh-Inv-loop (image t r) (a .records-at) (a .list-at) (a .n) (a .at) (a .count) (a .count) false 0 (l .weight + more) e (l .i + 1)
 turn t c {more} {o} f q =
     let i = c .before .before in

@@ -2,7 +2,7 @@
 use Prim.Native.Nat.{ℕ, _*_, _+_, _-_, _<_, _≤_}
 use Rattle.image.proofs.Entries.{wordsAfter, words-all, below-no, below-none, below-on}
 use Rattle.image.proofs.Trees.{formed-lower}
-use Rattle.image.proofs.Weights.{childrenAfter, children-step, children-end, opens-on, opens-end, Found, leaf, parent, sum-no, sum-yes}
+use Rattle.image.proofs.Weights.{childrenAfter, children-step, children-end, opens-on, opens-end, OfChild, leaf, parent, sum-no, sum-yes}
 use Rattle.image.specs.Inside.{wordsFrom, childrenAt}
 use Rattle.image.specs.Tree.{weights, someOpen}
 use Rattle.image.specs.Words.{wordAt}
@@ -40,13 +40,13 @@ abbrev reading : tie.After-child-at Inv-loop μ-loop → tie.In-loop Inv-loop μ
 reading c = c .before .before .before
 
 -- what is found of it: it is light, and what is left falls by it
-abbrev FoundAt : tie.After-child-at Inv-loop μ-loop → ℕ → Bool → Type 0
-FoundAt c = Found (image (reading c)) (c .before .before .word .result)
+abbrev OfThis : tie.After-child-at Inv-loop μ-loop → ℕ → Bool → Type 0
+OfThis c = OfChild (image (reading c)) (c .before .before .word .result)
 
-light : (c : tie.After-child-at Inv-loop μ-loop) {more : ℕ} {o : Bool} → FoundAt c more o → more ≤ 63
+light : (c : tie.After-child-at Inv-loop μ-loop) {more : ℕ} {o : Bool} → OfThis c more o → more ≤ 63
 light c f = omega (arith, f .weighs, start (reading c) .pre .1 .before _ (c .before .if1 .left) .light)
 
-step : (c : tie.After-child-at Inv-loop μ-loop) {more : ℕ} {o : Bool} → FoundAt c more o → let t = reading c in let a = start t .args in let i = t .before .loop .i in let img = image t in
+step : (c : tie.After-child-at Inv-loop μ-loop) {more : ℕ} {o : Bool} → OfThis c more o → let t = reading c in let a = start t .args in let i = t .before .loop .i in let img = image t in
     (weights (childrenAfter img (a .at) (a .count) i) ≡ 1 + more + weights (childrenAfter img (a .at) (a .count) (i + 1))) × (someOpen (childrenAfter img (a .at) (a .count) i) ≡ (o || someOpen (childrenAfter img (a .at) (a .count) (i + 1))))
 step c f = let t = reading c in children-step (image t) _ _ _ (c .before .before .word .result) (t .loop-test .taken) (c .before .before .word .ensures) f
 
@@ -99,7 +99,7 @@ loop-less : tie.Need-loop-less Inv-loop μ-loop
 loop-less c = omega (arith, reading (c .before .before .before .before) .loop-test .taken)
 
 -- a turn: what was found before it and at it
-turn : (c : tie.After-child-at Inv-loop μ-loop) {more : ℕ} {o e : Bool} → FoundAt c more o → let t = reading c in let a = start t .args in let l = t .before .loop in
+turn : (c : tie.After-child-at Inv-loop μ-loop) {more : ℕ} {o e : Bool} → OfThis c more o → let t = reading c in let a = start t .args in let l = t .before .loop in
     e ≡ (l .opens || o) → Inv-loop (image t) (a .records-at) (a .list-at) (a .n) (a .at) (a .count) (a .count) false 0 (l .weight + more) e (l .i + 1)
 turn c {more} {o} f q =
     let t = reading c in
