@@ -121,7 +121,7 @@ fn of_records() -> Vec<(&'static str, usize, Vec<u8>)> {
         records.resize(n, [7, 200, 0, 0]);
         ("HoldTap of a NoOp twice", n, filled(one, records, &[]))
     });
-    let links = [1, 4, 16, 32, 48, 64].map(|n| {
+    let links = [1, 4, 5, 16, 32, 48, 64].map(|n| {
         let list: Vec<usize> = (0..63).collect();
         let name = "MultipleActions that names the record before";
         (name, n, filled(one, chain(n), &list))
