@@ -45,9 +45,6 @@ mul-word-or-zero c = omega (arith, places c)
 add-word-or-zero : tie.Need-add-word-or-zero
 add-word-or-zero c = omega (arith, places c)
 
-word-or-zero-requires-4 : tie.Need-word-or-zero-requires-4
-word-or-zero-requires-4 c κs = omega (arith, places c)
-
 returns : tie.Need-returns
 unfolding cellAt cellOf
 returns c =
@@ -77,4 +74,4 @@ returns-4 c =
     simp (le-ltb (a .layer) (layersOf (now (a .image))) (omega arith))
 
 pub cell-at-spec : {M : Type 1} → statement M
-cell-at-spec = tie.close (tie.spec (λ c κs. search needs) (λ c. search needs) (λ c κs. search needs) (λ c. search needs) (λ c κs. search needs) (λ c. search needs) mul-place add-place mul-place-2 add-place-2 mul-word-or-zero add-word-or-zero word-or-zero-requires-4 returns returns-2 returns-3 returns-4)
+cell-at-spec = tie.close (tie.spec (λ c κs. search needs) (λ c. search needs) (λ c κs. search needs) (λ c. search needs) (λ c κs. search needs) (λ c. search needs) mul-place add-place mul-place-2 add-place-2 mul-word-or-zero add-word-or-zero (λ c κs. search needs) returns returns-2 returns-3 returns-4)
