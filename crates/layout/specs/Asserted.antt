@@ -1,6 +1,7 @@
--- What the Rust asserts while an action runs, and the difference that it takes: document 01, "What must change shape". Where a
--- HoldTap begins, nothing waits (`assert!`), and the first queued release of its key is no older than the delay (`delay - since`).
---     RunsSo        a fact that holds wherever the run of an action comes to a HoldTap
+-- What the Rust asserts while an action runs, and the difference that it takes: document 01, "What must change shape". Where an
+-- action begins, whichever it is, nothing waits (`assert!`); and where a HoldTap does, the first queued release of its key is no
+-- older than the delay (`delay - since`).
+--     RunsSo        a fact that holds wherever the run of an action comes to an action
 --     EventSo, TickSo      the same of every action that a call runs: the walk of specs/Steps.antt
 --     NeverWaits    over an accepted image, whatever the layout, nothing waits there: Nested rules the assertion out
 --     FirstYounger  in a queue whose ages fall, the first release of a key is no older than the event before it
@@ -31,30 +32,42 @@ use Rattle.layout.specs.declared.queue.Found.{Found}
 use Rattle.layout.specs.declared.queue.Found.the-variants.{None, At}
 use Rattle.layout.specs.declared.layout.Layout.{Layout}
 
--- a fact of a moment: the delay, the first queued release and the layout with which a HoldTap begins
+-- a fact of a moment: the action that begins, its delay, the first queued release and the layout
 abbrev pub Fact : Type 1
-Fact = ℕ → Found → Model → Type 0
+Fact = Action → ℕ → Found → Model → Type 0
 
--- nothing waits; and the difference of delay and age is not below 0
+-- nothing waits, whichever action it is
 abbrev pub NothingWaits : Fact
-NothingWaits d f l = l .waiting ≡ Idle
+NothingWaits a d f l = l .waiting ≡ Idle
 
+-- the release that is found is no older than the delay
+abbrev pub NoOlder : ℕ → Found → Type 0
+NoOlder d None = Unit
+NoOlder d (At age) = age ≤ d
+
+-- so the difference of delay and age, which a HoldTap alone takes, is not below 0
 abbrev pub NotBelow : Fact
-NotBelow d None l = Unit
-NotBelow d (At age) l = age ≤ d
+NotBelow NoOp d f l = Unit
+NotBelow Trans d f l = Unit
+NotBelow (KeyCode k) d f l = Unit
+NotBelow (MultipleKeyCodes ks) d f l = Unit
+NotBelow (MultipleActions actions) d f l = Unit
+NotBelow (Layer v) d f l = Unit
+NotBelow (DefaultLayer v) d f l = Unit
+NotBelow (HoldTap i timeout hold tap) d f l = NoOlder d f
 
--- wherever the run of an action comes to a HoldTap, in the action that a decision runs too
+-- of the action itself, of each that it names, and of those that a decision runs
 unfoldable mutual
   pub RunsSo : Fact → Action → ℕ → Coord → ℕ → Found → Model → Type 0
-  RunsSo P NoOp n c d f l = Unit
-  RunsSo P Trans n c d f l = Unit
-  RunsSo P (KeyCode k) n c d f l = Unit
-  RunsSo P (MultipleKeyCodes ks) n c d f l = Unit
-  RunsSo P (MultipleActions actions) n c d f l = AllRunSo P actions n c d f l
-  RunsSo P (Layer v) n c d f l = Unit
-  RunsSo P (DefaultLayer v) n c d f l = Unit
+  RunsSo P NoOp n c d f l = P NoOp d f l
+  RunsSo P Trans n c d f l = P Trans d f l
+  RunsSo P (KeyCode k) n c d f l = P (KeyCode k) d f l
+  RunsSo P (MultipleKeyCodes ks) n c d f l = P (MultipleKeyCodes ks) d f l
+  RunsSo P (MultipleActions actions) n c d f l = P (MultipleActions actions) d f l × AllRunSo P actions n c d f l
+  RunsSo P (Layer v) n c d f l = P (Layer v) d f l
+  RunsSo P (DefaultLayer v) n c d f l = P (DefaultLayer v) d f l
   RunsSo P (HoldTap i timeout hold tap) n c d f l =
-      P d f l × RunsSo P tap n c 0 f (withWaiting Idle l) × RunsSo P hold n c 0 f (withWaiting Idle l)
+      P (HoldTap i timeout hold tap) d f l × RunsSo P tap n c 0 f (withWaiting Idle l) × RunsSo P hold n c 0 f (withWaiting Idle l)
 
   pub AllRunSo : Fact → Actions → ℕ → Coord → ℕ → Found → Model → Type 0
   AllRunSo P end n c d f l = Unit
