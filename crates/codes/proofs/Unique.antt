@@ -1,6 +1,7 @@
 -- Each public function's contract decides its whole answer. Assumes nothing.
 use mathlib.Core.Path.{refl, _∙_, sym}
-use Rattle.decides.specs.Decides.{Decides, both}
+use Rattle.decides.specs.Decides.{Decides}
+use Rattle.decides.proofs.Both.{both}
 use Rattle.codes.proofs.key_code.KeyCode.is_legal as L
 use Rattle.codes.proofs.key_code.KeyCode.is_modifier as Mod
 use Rattle.codes.proofs.key_code.KeyCode.as_modifier_bit as B

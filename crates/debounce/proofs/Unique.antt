@@ -1,6 +1,7 @@
 -- Each public function's contract decides its whole answer, and `events`' what the buffer holds at exit. Assumes nothing.
 use mathlib.Core.Path.{refl, ap, _∙_, sym}
-use Rattle.decides.specs.Decides.{Decides, both}
+use Rattle.decides.specs.Decides.{Decides}
+use Rattle.decides.proofs.Both.{both}
 use Rattle.debounce.proofs.Said.{made-one, got-one, updated-one, handed-one}
 use Rattle.debounce.proofs.Debouncer.new as N
 use Rattle.debounce.proofs.Debouncer.get as G

@@ -24,7 +24,7 @@ use Rattle.layout.specs.Reach.{Starts}
 use Rattle.layout.proofs.Lawful.{Lawful, event-lawful, tick-lawful}
 use Rattle.layout.proofs.Reach.{lawful-good, unpack-pack, starts-lawful}
 use Rattle.demands.specs.Runs.{Call, Tick, Enter, call, run, ticks}
-use Rattle.demands.specs.Public.{Lent, callsOf, ticksOn, lentAll, Roomy, step, reply, replies, marksIf, marksOf, lastLayout, codesIn, lastCodes, NoneRefused}
+use Rattle.demands.specs.Public.{Lent, callsOf, ticksOn, lentAll, Roomy, step, reply, replies, marksIf, marksOf, lastLayout, codesTold, lastCodes, NoneRefused}
 
 -- what a call that did so hands back
 abbrev given : Done → List ℕ → Reply
@@ -35,7 +35,7 @@ given done buffer =
       buffer = laid (codes (done .layout .states)) buffer;
     }
 
-given-codes : (done : Done) (buffer : List ℕ) → codesIn (given done buffer) ≡ codes (done .layout .states)
+given-codes : (done : Done) (buffer : List ℕ) → codesTold (given done buffer) ≡ codes (done .layout .states)
 given-codes done buffer = take-at (codes (done .layout .states)) (drop (length (codes (done .layout .states))) buffer) (length (codes (done .layout .states))) refl
 
 module _ (img : List ℕ) (shape : Shape) (e : checkOf img ≡ Accepted shape) where

@@ -20,7 +20,7 @@ use Rattle.image.specs.Tree.{Action, HoldTap}
 use Rattle.image.specs.declared.words.Shape.{Shape}
 use Rattle.image.specs.declared.rules.Checked.the-variants.{Accepted}
 use Rattle.image.proofs.Accepted.{accepted}
-use Rattle.layout.specs.Actions.{isRelease, find, Now, verdict, begins, doAction, decided}
+use Rattle.layout.specs.Actions.{isRelease, find, AtOnce, ruling, begins, doAction, decided}
 use Rattle.layout.specs.Model.{Queued, Model, Waiting, Idle, Waits, Done, ageOf, same, still, withWaiting, withQueue}
 use Rattle.layout.specs.Packed.{waitingIn, pack}
 use Rattle.layout.specs.Notes.{decisions}
@@ -120,7 +120,7 @@ module _ (t : Table) (l : Model) (d : Coord) (n : ℕ) (hold tap : Action) where
   -- a press acted on at its first tick, with a delay of one
   begins-live : (k m : ℕ) → pressed t d (resting l) ≡ HoldTap n (suc (suc k)) hold tap
       → decisions (run t (Enter (Press (d .i) (d .j)) ∷ ticks (suc m)) (resting l) .marks) ≡ decisions (run t (ticks m) (waits l d n hold tap (suc k) []) .marks)
-  unfolding decisions run ticks call event entered released tick ticked act find verdict doAction
+  unfolding decisions run ticks call event entered released tick ticked act find ruling doAction
   begins-live k m e = rw (e, less (suc k)) refl
 
   live-before : (k : ℕ) → pressed t d (resting l) ≡ HoldTap n (suc (suc k)) hold tap → decisions (run t (Enter (Press (d .i) (d .j)) ∷ ticks (suc k)) (resting l) .marks) ≡ []
@@ -152,7 +152,7 @@ module _ (t : Table) (l : Model) (d : Coord) (n : ℕ) (hold tap : Action) where
       (ap (λ (k : Model). k .queue) (first ∙ second) ∙ y .queue ∙ two, ap (λ (k : Model). k .waiting) (first ∙ second) ∙ y .idle)
 
 -- a hold-tap that a queued release decides makes that one decision
-decides-now : (w : Way) (c : Coord) (k : Model) (tapped held : Done) → tapped .marks ≡ [] → held .marks ≡ [] → decisions (begins (Now w) c k tapped held .marks) ≡ (c, w) ∷ []
+decides-now : (w : Way) (c : Coord) (k : Model) (tapped held : Done) → tapped .marks ≡ [] → held .marks ≡ [] → decisions (begins (AtOnce w) c k tapped held .marks) ≡ (c, w) ∷ []
 unfolding decisions
 decides-now Tap c k tapped held et eh = rw et
 decides-now Hold c k tapped held et eh = rw eh
@@ -168,7 +168,7 @@ module _ (t : Table) (k : Model) (c : Coord) (n timeout : ℕ) (hold tap : Actio
 
   -- an old press is acted on, its release behind it
   acts-queued : (y : Queued) → y .event ≡ Release (c .i) (c .j) → (age : ℕ) → decisions (act t (Press (c .i) (c .j)) age (withQueue (y ∷ []) k) .marks) ≡ (c, cond (leb (age - ageOf y) timeout) Tap Hold) ∷ []
-  unfolding act doAction decisions verdict
+  unfolding act doAction decisions ruling
   acts-queued y ey age =
       let l = withQueue (y ∷ []) k in
       rw (keyed (y ∷ []), found y ey)

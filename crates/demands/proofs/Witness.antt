@@ -21,7 +21,7 @@ use Rattle.refusal.specs.Verdict.{rule, orElse, firstFault}
 use Rattle.image.specs.Check.{within, countsGood, offsetsGood, headerGood, headFault, cellFault, form, formGood, recordFault, bodyFault, faultOf, answer, checkOf}
 use Rattle.image.specs.declared.rules.Checked.the-variants.{Accepted}
 use Rattle.layout.specs.Model.{Waits, Acted, Begun, Decided, fresh, same}
-use Rattle.layout.specs.Actions.{push, pushCodes, find, verdict, doAction, decided}
+use Rattle.layout.specs.Actions.{push, pushCodes, find, ruling, doAction, decided}
 use Rattle.layout.specs.Steps.{held, sum, current, pressed, release, act, into, released, overflow, entered, event, ticked, tick}
 use Rattle.layout.specs.declared.notes.Way.the-variants.{Tap}
 use Rattle.demands.specs.Runs.{Call, call, run, ticks, arrived}
@@ -67,7 +67,7 @@ record Computed : Type 0 where
   done : let c : Coord = record { i = 0; j = 0 } in drain (tableOf (zOf 3)) fresh tapped 7 .marks ≡ Acted (Press 0 0) ∷ Begun c ∷ Decided c Tap ∷ Acted (Release 0 0) ∷ []
 
 computed : Computed
-unfolding zOf seventeen tapped keep wordAt cellOf fieldOf actionOf actionAt cellAt named meaning trees tree treeIn push pushCodes find verdict doAction decided held sum current pressed release act into released overflow entered event ticked tick call run ticks
+unfolding zOf seventeen tapped keep wordAt cellOf fieldOf actionOf actionAt cellAt named meaning trees tree treeIn push pushCodes find ruling doAction decided held sum current pressed release act into released overflow entered event ticked tick call run ticks
 computed = record { queued = refl; before = refl; at = record { empty = refl; idle = refl }; two = refl; done = refl }
 
 lent-room : 64 ≤ length lent

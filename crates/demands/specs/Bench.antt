@@ -1,6 +1,6 @@
--- The cases of document 01, "Bench cases", that are marked P, three of its "Easy errors", and its "table in use" where there
--- is none: what goes in and what comes out, as data, and one statement over their lists. What comes out is computed through
--- the definitions that the public functions' contracts give.
+-- The cases of document 01, "Bench cases", that are marked P, its "Easy errors", and its "table in use" where there is none: what
+-- goes in and what comes out, as data, and one statement over their lists. What comes out is computed through the definitions
+-- that the public functions' contracts give.
 -- Assumes nothing.
 use Prim.Native.Nat.{ℕ, _*_}
 use mathlib.Core.Path.{_≡_}
@@ -22,8 +22,8 @@ use Rattle.layout.specs.Calls.{Reply}
 use Rattle.layout.specs.declared.notes.Way.{Way}
 use Rattle.layout.specs.declared.notes.Way.the-variants.{Tap, Hold}
 use Rattle.demands.specs.Runs.{Call, Tick, Enter}
-use Rattle.demands.specs.Public.{lentAll, replies, codesIn}
-use Rattle.demands.specs.Z.{z, layered, lent}
+use Rattle.demands.specs.Public.{lentAll, replies, codesTold}
+use Rattle.demands.specs.Z.{z, layered, twoKeys, lent}
 
 -- what goes in
 pub data Input : Type 0 where
@@ -69,7 +69,7 @@ says r =
     record {
       number = r .told .number;
       place = r .told .place;
-      codes = codesIn r;
+      codes = codesTold r;
       acted = actedIn (r .told .notes .acted);
       decided = madeIn (r .told .notes);
     }
@@ -178,6 +178,19 @@ easyErrors =
     ∷ record {
       given = Calls layered (Enter (Press 0 0) ∷ Enter (Press 0 2) ∷ Tick ∷ Tick ∷ Enter (Press 0 1) ∷ Tick ∷ []);
       gives = Answers (nothing ∷ nothing ∷ acting (Press 0 0) [] [] ∷ acting (Press 0 2) [] [] ∷ nothing ∷ acting (Press 0 1) [] [] ∷ []);
+    }
+    -- the queued tie: press and release of the second key, 3 ticks apart, come while the first waits: tap at timeout 3
+    ∷ record {
+      given =
+          Calls twoKeys
+          (Enter (Press 0 0) ∷ Tick ∷ Enter (Press 0 1) ∷ Tick ∷ Tick ∷ Tick ∷ Enter (Release 0 1) ∷ Tick ∷ Tick ∷ Tick ∷ []);
+      gives =
+          Answers
+          (nothing ∷ acting (Press 0 0) [] [] ∷ nothing ∷ nothing ∷ nothing ∷ nothing ∷ nothing
+          ∷ deciding ((origin, Hold) ∷ []) (0x05 ∷ [])
+          ∷ acting (Press 0 1) ((record { i = 0; j = 1 }, Tap) ∷ []) (0x05 ∷ 0x04 ∷ [])
+          ∷ acting (Release 0 1) [] (0x05 ∷ [])
+          ∷ []);
     }
     ∷ []
 

@@ -26,7 +26,7 @@ use Rattle.layout.specs.declared.layout.Layout.{Layout}
 use Rattle.demands.specs.Runs.{Call, arrived}
 use Rattle.demands.specs.Answers.{namedEvents, namedDecisions}
 use Rattle.demands.specs.Words.{bound, Leads, Nothing, AllReleased}
-use Rattle.demands.specs.Public.{Lent, callsOf, ticksOn, Roomy, reply, replies, marksOf, after, lastCodes, notesOf, NoneRefused}
+use Rattle.demands.specs.Public.{Lent, callsOf, ticksOn, Roomy, reply, replies, marksOf, afterCalls, lastCodes, notesOf, NoneRefused}
 
 -- the calls on a layout, then ticks alone, one for each buffer: what they hand back, the layout that they leave, and what
 -- their steps did
@@ -34,14 +34,14 @@ abbrev pub ran : List ℕ → Model → List Lent → List (List ℕ) → List R
 ran image start calls bs = replies image (calls ++ ticksOn bs) (pack start)
 
 abbrev pub left : List ℕ → Model → List Lent → List (List ℕ) → Layout
-left image start calls bs = after image start (calls ++ ticksOn bs)
+left image start calls bs = afterCalls image start (calls ++ ticksOn bs)
 
 abbrev pub did : List ℕ → Model → List Lent → List (List ℕ) → List Mark
 did image start calls bs = marksOf image (calls ++ ticksOn bs) (pack start)
 
--- 2q + max(1, M): q events are queued after the calls, and M is the image's longest hold time
+-- 2q + max(1, M): q events are queued afterCalls the calls, and M is the image's longest hold time
 abbrev pub boundOf : List ℕ → Model → List Lent → ℕ
-boundOf image start calls = bound (queuedIn (after image start calls)) (timesOf image)
+boundOf image start calls = bound (queuedIn (afterCalls image start calls)) (timesOf image)
 
 -- the queue is empty and nothing waits
 pub record AtRest (layout : Layout) : Type 0 where

@@ -46,7 +46,7 @@ unfoldable pub reply : List ℕ → Call → Layout → List ℕ → Reply
 reply image Tick layout buffer = tickReply image layout buffer
 reply image (Enter e) layout buffer = eventReply image e layout buffer
 
--- one call after the other
+-- one call afterCalls the other
 unfoldable pub replies : List ℕ → List Lent → Layout → List Reply
 replies image [] layout = []
 replies image (k ∷ ks) layout = let r = reply image (k .call) layout (k .buffer) in r ∷ replies image ks (r .layout)
@@ -74,18 +74,18 @@ unfoldable pub lastLayout : Layout → List Reply → Layout
 lastLayout layout [] = layout
 lastLayout layout (r ∷ rs) = lastLayout (r .layout) rs
 
--- the layout after calls on a start
-abbrev pub after : List ℕ → Model → List Lent → Layout
-after image start calls = lastLayout (pack start) (replies image calls (pack start))
+-- the layout afterCalls calls on a start
+abbrev pub afterCalls : List ℕ → Model → List Lent → Layout
+afterCalls image start calls = lastLayout (pack start) (replies image calls (pack start))
 
 -- the codes of an answer: the first bytes of the buffer, as many as the answer says
-abbrev pub codesIn : Reply → List ℕ
-codesIn r = take (r .told .codes) (r .buffer)
+abbrev pub codesTold : Reply → List ℕ
+codesTold r = take (r .told .codes) (r .buffer)
 
 -- the codes of the last answer; before any call, those that there are
 unfoldable pub lastCodes : List ℕ → List Reply → List ℕ
 lastCodes codes [] = codes
-lastCodes codes (r ∷ rs) = lastCodes (codesIn r) rs
+lastCodes codes (r ∷ rs) = lastCodes (codesTold r) rs
 
 -- what the answers name
 abbrev pub notesOf : List Reply → List Notes

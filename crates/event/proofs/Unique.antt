@@ -1,6 +1,7 @@
 -- Each public function's contract decides its whole answer. Assumes nothing.
 use mathlib.Core.Path.{refl, _∙_, sym}
-use Rattle.decides.specs.Decides.{Decides, both}
+use Rattle.decides.specs.Decides.{Decides}
+use Rattle.decides.proofs.Both.{both}
 use Rattle.event.proofs.Back.{read-one}
 use Rattle.event.proofs.Event.coord as C
 use Rattle.event.proofs.Event.bytes as B

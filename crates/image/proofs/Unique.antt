@@ -3,7 +3,8 @@ use mathlib.Core.Path.{refl, _∙_, sym}
 use mathlib.Core.List.{List}
 use Prim.Native.Nat.{ℕ}
 use denote.Ref.{now}
-use Rattle.decides.specs.Decides.{Decides, DecidesAs, both}
+use Rattle.decides.specs.Decides.{Decides, DecidesAs}
+use Rattle.decides.proofs.Both.{both}
 use Rattle.image.proofs.Said.{said-one, source-one}
 use Rattle.image.proofs.record.cell_at as C
 use Rattle.image.proofs.record.action_at as A

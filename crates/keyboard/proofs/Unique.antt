@@ -1,6 +1,7 @@
 -- Each public function's contract decides its whole answer, and a lent one's what the record is at exit. Assumes nothing.
 use mathlib.Core.Path.{refl, ap, _∙_, sym}
-use Rattle.decides.specs.Decides.{Decides, both}
+use Rattle.decides.specs.Decides.{Decides}
+use Rattle.decides.proofs.Both.{both}
 use Rattle.keyboard.proofs.Keyboard.new as N
 use Rattle.keyboard.proofs.Keyboard.set_keyboard_report as S
 use Rattle.keyboard.proofs.Keyboard.get_report as G

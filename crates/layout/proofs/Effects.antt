@@ -19,7 +19,7 @@ use Rattle.layout.specs.Actions.{push}
 use Rattle.layout.specs.Packed.{pad, noSlot, statesIn, waitingOf, modelOf}
 use Rattle.layout.specs.Notes.{noted, notedMarks, noteDecision}
 use Rattle.layout.specs.Inside.{Tidy, Did}
-use Rattle.layout.specs.Effects.{stateOf, effectOf, effectIn, Roomy, Effected, Grown}
+use Rattle.layout.specs.Effects.{stateOf, effectOf, effectIn, HasRoom, Effected, Grown}
 use Rattle.layout.specs.declared.active.State.{State}
 use Rattle.layout.specs.declared.active.State.the-variants.{NormalKey, LayerModifier}
 use Rattle.layout.specs.declared.active.Slot.{Slot}
@@ -63,7 +63,7 @@ grown-more c l arr a h k e lt in-a ea =
     let more : l ++ map (slotOf c) (take (k + 1) a) ≡ put ++ (slotOf c (getD a k 0) ∷ []) = rw (add-one, take-suc a k 0 in-a, map-append, append-assoc) in
     rw more (held-more 64 noSlot put (slotOf c (getD a k 0)) arr (h + k) lt count ea .1)
 
-pub grown : (active : Active) (effect : Effect) (a : List ℕ) (c : Coord) (arr : List Slot) → Tidy active → Roomy effect a → effect .held ≡ active .len
+pub grown : (active : Active) (effect : Effect) (a : List ℕ) (c : Coord) (arr : List Slot) → Tidy active → HasRoom effect a → effect .held ≡ active .len
     → arr ≡ pad 64 noSlot (take (effect .held) (active .states) ++ map (slotOf c) (take (effect .added) a))
     → Grown active effect a c (record { active = record { «default_layer» = effect .«default_layer»; states = arr; len = effect .held + effect .added; waiting = effect .waiting }; notes = effect .notes })
 grown active effect a c arr t r e ea =
@@ -93,22 +93,22 @@ model-of : {b b′ : ℕ} {s s′ : List State} {w w′ : Waiting} (q : List Que
 model-of q e f g = rw (e, f, g)
 
 module _ (img : List ℕ) (c : Coord) where
-  pub effected-nothing : (t : Effect) (a : List ℕ) → Roomy t a → Effected img c t t a a still
+  pub effected-nothing : (t : Effect) (a : List ℕ) → HasRoom t a → Effected img c t t a a still
   unfolding notedMarks
   effected-nothing t a r = record { held = refl; roomy = r; is = λ s h q. refl; notes = λ s h q. refl }
 
-  pub new-wait : (t : Effect) (a : List ℕ) (w : WaitingIn) → Roomy t a
+  pub new-wait : (t : Effect) (a : List ℕ) (w : WaitingIn) → HasRoom t a
       → Effected img c t (record { «default_layer» = t .«default_layer»; held = t .held; added = t .added; waiting = w; notes = t .notes }) a a (λ m. still (withWaiting (waitingOf img w) m))
   unfolding notedMarks
   new-wait t a w r = record { held = refl; roomy = record { few = r .few; long = r .long }; is = λ s h q. refl; notes = λ s h q. refl }
 
-  pub new-base : (t : Effect) (a : List ℕ) (v : ℕ) → Roomy t a
+  pub new-base : (t : Effect) (a : List ℕ) (v : ℕ) → HasRoom t a
       → Effected img c t (record { «default_layer» = v; held = t .held; added = t .added; waiting = t .waiting; notes = t .notes }) a a (λ m. still (withBase v m))
   unfolding notedMarks
   new-base t a v r = record { held = refl; roomy = record { few = r .few; long = r .long }; is = λ s h q. refl; notes = λ s h q. refl }
 
   -- what waits waits no more, and the decision is noted
-  pub settled : (t : Effect) (a : List ℕ) (k : Coord) (way : Way) (notes : Notes) → Roomy t a → notes ≡ noteDecision (t .notes) k way
+  pub settled : (t : Effect) (a : List ℕ) (k : Coord) (way : Way) (notes : Notes) → HasRoom t a → notes ≡ noteDecision (t .notes) k way
       → Effected img c t (record { «default_layer» = t .«default_layer»; held = t .held; added = t .added; waiting = waiting.Nothing; notes = notes }) a a (λ m. marked (Decided k way) (still (withWaiting Idle m)))
   unfolding notedMarks
   settled t a k way notes r e = record { held = refl; roomy = record { few = r .few; long = r .long }; is = λ s h q. refl; notes = λ s h q. e }
@@ -143,11 +143,11 @@ module _ (img : List ℕ) (c : Coord) where
 
   pub record Left (start now : Effect) (before here : List ℕ) (all rest : Model → Done) : Type 0 where
     pub held : now .held ≡ start .held
-    pub roomy : Roomy now here
+    pub roomy : HasRoom now here
     pub same : (s : List State) → length s ≡ start .held → (q : List Queued) → rest (effectIn img c now here s q) .layout ≡ all (effectIn img c start before s q) .layout
     pub notes : (s : List State) → length s ≡ start .held → (q : List Queued) → notedMarks (now .notes) (rest (effectIn img c now here s q) .marks) ≡ notedMarks (start .notes) (all (effectIn img c start before s q) .marks)
 
-  pub left-start : (t : Effect) (a : List ℕ) (f : Model → Done) → Roomy t a → Left t t a a f f
+  pub left-start : (t : Effect) (a : List ℕ) (f : Model → Done) → HasRoom t a → Left t t a a f f
   left-start t a f r = record { held = refl; roomy = r; same = λ s h q. refl; notes = λ s h q. refl }
 
   pub left-step : {o t u : Effect} {z a b : List ℕ} {all rest f rest′ : Model → Done} → Left o t z a all rest → Effected img c t u a b f → ((l : Model) → rest l ≡ after (f l) (rest′ (f l .layout))) → Left o u z b all rest′
@@ -177,10 +177,10 @@ module _ (img : List ℕ) (c : Coord) where
       }
 
   -- how many states there are, those added among them
-  count : (t : Effect) (a : List ℕ) (s : List State) → Roomy t a → length s ≡ t .held → length (s ++ map (stateOf c) (take (t .added) a)) ≡ t .held + t .added
+  count : (t : Effect) (a : List ℕ) (s : List State) → HasRoom t a → length s ≡ t .held → length (s ++ map (stateOf c) (take (t .added) a)) ≡ t .held + t .added
   count t a s r h = rw (length-append, length-map, length-take-le (t .added) a (omega (arith, r .few, r .long)), h)
 
-  pub push-room : (t : Effect) (a : List ℕ) (n : ℕ) → Roomy t a → t .held + t .added < 64
+  pub push-room : (t : Effect) (a : List ℕ) (n : ℕ) → HasRoom t a → t .held + t .added < 64
       → Effected img c t (record { «default_layer» = t .«default_layer»; held = t .held; added = t .added + 1; waiting = t .waiting; notes = t .notes }) a (set a (t .added) n) (push (stateOf c n))
   unfolding notedMarks
   push-room t a n r lt =
@@ -196,7 +196,7 @@ module _ (img : List ℕ) (c : Coord) where
         notes = λ s h q. sym (ap (λ (x : Done). noted (t .notes) x) (yes s h q));
       }
 
-  pub push-full : (t : Effect) (a : List ℕ) (n : ℕ) → Roomy t a → 64 ≤ t .held + t .added → Effected img c t t a a (push (stateOf c n))
+  pub push-full : (t : Effect) (a : List ℕ) (n : ℕ) → HasRoom t a → 64 ≤ t .held + t .added → Effected img c t t a a (push (stateOf c n))
   unfolding notedMarks
   push-full t a n r ge =
       let no : (s : List State) → length s ≡ t .held → (q : List Queued) → push (stateOf c n) (effectIn img c t a s q) ≡ still (effectIn img c t a s q) =
@@ -228,9 +228,9 @@ module _ (img : List ℕ) (c : Coord) where
       }
 
 -- an action begins, with room for all that it may add, and what it added may be taken
-pub effect-starts : (active : Active) (notes : Notes) (effect : Effect) (a : List ℕ) → Tidy active → effect ≡ effectOf active notes → length a ≡ 64 → Roomy effect a
+pub effect-starts : (active : Active) (notes : Notes) (effect : Effect) (a : List ℕ) → Tidy active → effect ≡ effectOf active notes → length a ≡ 64 → HasRoom effect a
 effect-starts active notes effect a t e l = record { few = omega (arith, t .few, ap (λ (x : Effect). x .held) e, ap (λ (x : Effect). x .added) e); long = l }
 
 pub effect-ends : (img : List ℕ) (c : Coord) (active : Active) (notes : Notes) (effect last : Effect) (a b : List ℕ) {f : Model → Done} → Tidy active → effect ≡ effectOf active notes → Effected img c effect last a b f
-    → Tidy active × Roomy last b × (last .held ≡ active .len)
+    → Tidy active × HasRoom last b × (last .held ≡ active .len)
 effect-ends img c active notes effect last a b t e d = (t, d .roomy, d .held ∙ ap (λ (x : Effect). x .held) e)

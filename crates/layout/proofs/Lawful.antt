@@ -18,7 +18,7 @@ use Rattle.image.specs.Tree.{Action, Actions, NoOp, Trans, KeyCode, MultipleKey
 use Rattle.image.specs.Sound.{Sound}
 use Rattle.image.specs.Table.{tableOf}
 use Rattle.layout.specs.Model.{Queued, Model, Waiting, Idle, Waits, Done, ageOf, fresh, still, withBase, withStates, withWaiting, withQueue}
-use Rattle.layout.specs.Actions.{push, pushCodes, Verdict, Open, Now, verdict, find, begins, doAction, doActions, chosen, decided}
+use Rattle.layout.specs.Actions.{push, pushCodes, Ruling, Undecided, AtOnce, ruling, find, begins, doAction, doActions, chosen, decided}
 use Rattle.layout.specs.Steps.{current, held, orDefault, pressed, stays, release, act, into, intoHold, released, releases, overflow, appended, entered, event, older, tickWait, ticked, tick}
 use Rattle.layout.specs.Packed.{holdOf, tapOf}
 use Rattle.layout.specs.State.{legalState, falling, mayWait}
@@ -118,10 +118,10 @@ module _ (img : List ℕ) where
       let b = both-true (legal k) (every legal ks) e in
       codes-lawful ks c (push (NormalKey k c) l .layout) (b .1) (push-lawful (NormalKey k c) l (b .0) w)
 
-  begins-lawful : (x : Verdict) (c : Coord) (waits : Model) (tapped held : Done) → Lawful img waits → Lawful img (tapped .layout) → Lawful img (held .layout) → Lawful img (begins x c waits tapped held .layout)
-  begins-lawful Open c waits tapped held p q r = p
-  begins-lawful (Now Tap) c waits tapped held p q r = q
-  begins-lawful (Now Hold) c waits tapped held p q r = r
+  begins-lawful : (x : Ruling) (c : Coord) (waits : Model) (tapped held : Done) → Lawful img waits → Lawful img (tapped .layout) → Lawful img (held .layout) → Lawful img (begins x c waits tapped held .layout)
+  begins-lawful Undecided c waits tapped held p q r = p
+  begins-lawful (AtOnce Tap) c waits tapped held p q r = q
+  begins-lawful (AtOnce Hold) c waits tapped held p q r = r
 
   mutual
     unfolding doAction Rooted
@@ -140,7 +140,7 @@ module _ (img : List ℕ) where
     do-lawful (HoldTap i t h p) c d f l r w =
         let idle = with-waiting l Idle w tt in
         let may : mayWait (tree img i) (t - d) ≡ true = ap (λ (a : Action). mayWait a (t - d)) (r .0) ∙ le-leb (t - d) t (omega arith) in
-        begins-lawful (verdict t d f) c (withWaiting (Waits c (t - d) i h p) l) (doAction p (layersOf img) c 0 f (withWaiting Idle l)) (doAction h (layersOf img) c 0 f (withWaiting Idle l))
+        begins-lawful (ruling t d f) c (withWaiting (Waits c (t - d) i h p) l) (doAction p (layersOf img) c 0 f (withWaiting Idle l)) (doAction h (layersOf img) c 0 f (withWaiting Idle l))
         (with-waiting l (Waits c (t - d) i h p) w (may, r .1, r .2, ap holdOf (r .0), ap tapOf (r .0)))
         (do-lawful p c 0 f (withWaiting Idle l) (r .2) idle)
         (do-lawful h c 0 f (withWaiting Idle l) (r .1) idle)

@@ -8,7 +8,7 @@ use lib.ListN.{length}
 use Rattle.event.specs.declared.Coord.{Coord}
 use Rattle.event.specs.declared.Event.{Event}
 use Rattle.layout.specs.Model.{Mark, Acted, Begun, Decided}
-use Rattle.layout.specs.Notes.{noNotes, noteActed, placed, noteDecision, notedMarks, actedOn, actedIn, decisions, madeIn}
+use Rattle.layout.specs.Notes.{noNotes, noteActed, decisionAt, noteDecision, notedMarks, actedOn, actedIn, decisions, madeIn}
 use Rattle.layout.specs.declared.notes.Way.{Way}
 use Rattle.layout.specs.declared.notes.Decision.{Decision}
 use Rattle.layout.specs.declared.notes.Decision.the-variants as decision
@@ -38,10 +38,10 @@ decisions-append (Begun c ∷ a) b = decisions-append a b
 decisions-append (Decided c w ∷ a) b = ap (λ (x : List (Coord × Way)). (c, w) ∷ x) (decisions-append a b)
 
 -- a decision leaves the event that the notes name
-placed-acted : (k : ℕ) (d : Decision) (n : Notes) → placed k d n .acted ≡ n .acted
-placed-acted zero d n = refl
-placed-acted (suc zero) d n = refl
-placed-acted (suc (suc k)) d n = refl
+decision-at-acted : (k : ℕ) (d : Decision) (n : Notes) → decisionAt k d n .acted ≡ n .acted
+decision-at-acted zero d n = refl
+decision-at-acted (suc zero) d n = refl
+decision-at-acted (suc (suc k)) d n = refl
 
 -- marks that name no event leave it too
 noted-none : (ms : List Mark) (n : Notes) → length (actedOn ms) ≤ 0 → notedMarks n ms .acted ≡ n .acted
@@ -49,7 +49,7 @@ unfolding notedMarks actedOn
 noted-none [] n h = refl
 noted-none (Acted e ∷ ms) n h = absurd (omega arith)
 noted-none (Begun c ∷ ms) n h = noted-none ms n h
-noted-none (Decided c w ∷ ms) n h = noted-none ms (noteDecision n c w) h ∙ placed-acted (n .made) (decision.Made c w) n
+noted-none (Decided c w ∷ ms) n h = noted-none ms (noteDecision n c w) h ∙ decision-at-acted (n .made) (decision.Made c w) n
 
 noted-one : (ms : List Mark) (n : Notes) → n .acted ≡ acted.Nothing → length (actedOn ms) ≤ 1 → actedIn (notedMarks n ms .acted) ≡ actedOn ms
 unfolding notedMarks actedOn
@@ -60,7 +60,7 @@ noted-one (Acted x ∷ ms) n e h = ap actedIn (noted-none ms (noteActed n x) (om
     empty [] h = refl
     empty (y ∷ l) h = absurd (omega arith)
 noted-one (Begun c ∷ ms) n e h = noted-one ms n e h
-noted-one (Decided c w ∷ ms) n e h = noted-one ms (noteDecision n c w) (placed-acted (n .made) (decision.Made c w) n ∙ e) h
+noted-one (Decided c w ∷ ms) n e h = noted-one ms (noteDecision n c w) (decision-at-acted (n .made) (decision.Made c w) n ∙ e) h
 
 pub noted-acted : (ms : List Mark) → length (actedOn ms) ≤ 1 → actedIn (notedMarks noNotes ms .acted) ≡ actedOn ms
 noted-acted ms h = noted-one ms noNotes refl h

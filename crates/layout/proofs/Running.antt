@@ -18,7 +18,7 @@ use Rattle.event.specs.declared.Coord.{Coord}
 use Rattle.image.specs.Tree.{Action, Actions, NoOp, Trans, KeyCode, MultipleKeyCodes, MultipleActions, Layer, DefaultLayer, HoldTap, end, _&_}
 use Rattle.image.specs.Proper.{closed, closedAll, Times, holdable, isEnd, proper, properAll}
 use Rattle.layout.specs.Model.{Waiting, Idle, Waits, Model, Mark, Begun, Decided, Done, still, after, withBase, withWaiting}
-use Rattle.layout.specs.Actions.{push, pushCodes, Verdict, Open, Now, verdict, begins, doAction, doActions}
+use Rattle.layout.specs.Actions.{push, pushCodes, Ruling, Undecided, AtOnce, ruling, begins, doAction, doActions}
 use Rattle.layout.specs.Steps.{coordIn, orDefault}
 use Rattle.layout.specs.declared.active.State.{State}
 use Rattle.layout.specs.declared.active.State.the-variants.{NormalKey, LayerModifier}
@@ -112,13 +112,13 @@ ran-then x q = record { queue = q .queue ∙ x .queue; comes = rw (x .marks) (q 
 ran-now : (m : Times) (d : ℕ) {c : Coord} {l k : Model} {ms : List Mark} (way : Way) → Kept c (withWaiting Idle l) k ms → Ran m c d l k (Begun c ∷ Decided c way ∷ ms)
 ran-now m d way x = record { queue = x .queue; comes = rw (x .marks, x .waiting) (settled way); down = x .down }
 
-ran-begins : (m : Times) (i t : ℕ) (h p : Action) (n : ℕ) (c : Coord) (d : ℕ) (f : Found) (l : Model) (v : Verdict) → t ≤ m .first → holdable h m ≡ true → closed p ≡ true
+ran-begins : (m : Times) (i t : ℕ) (h p : Action) (n : ℕ) (c : Coord) (d : ℕ) (f : Found) (l : Model) (v : Ruling) → t ≤ m .first → holdable h m ≡ true → closed p ≡ true
     → let r = begins v c (withWaiting (Waits c (t - d) i h p) l) (doAction p n c 0 f (withWaiting Idle l)) (doAction h n c 0 f (withWaiting Idle l)) in
     Ran m c d l (r .layout) (r .marks)
 unfolding holdable
-ran-begins m i t h p n c d f l Open le th tp = record { queue = refl; comes = begun t i h p le th tp; down = λ g x y. y }
-ran-begins m i t h p n c d f l (Now Tap) le th tp = ran-now m d Tap (kept p n c 0 f (withWaiting Idle l) tp)
-ran-begins m i t h p n c d f l (Now Hold) le th tp = ran-now m d Hold (kept h n c 0 f (withWaiting Idle l) th)
+ran-begins m i t h p n c d f l Undecided le th tp = record { queue = refl; comes = begun t i h p le th tp; down = λ g x y. y }
+ran-begins m i t h p n c d f l (AtOnce Tap) le th tp = ran-now m d Tap (kept p n c 0 f (withWaiting Idle l) tp)
+ran-begins m i t h p n c d f l (AtOnce Hold) le th tp = ran-now m d Hold (kept h n c 0 f (withWaiting Idle l) th)
 
 -- either the entry is closed, or it is the last
 ran-join : (m : Times) (a : Action) (as′ : Actions) (n : ℕ) (c : Coord) (d : ℕ) (f : Found) (l : Model) (b : Bool) → l .waiting ≡ Idle
@@ -146,7 +146,7 @@ mutual
   ran (HoldTap i x h p) m n c d f l t e =
       let u = both-true (leb x (m .first)) (holdable h m && closed p) t in
       let y = both-true (holdable h m) (closed p) (u .1) in
-      ran-begins m i x h p n c d f l (verdict x d f) (leb-true x (m .first) (u .0)) (y .0) (y .1)
+      ran-begins m i x h p n c d f l (ruling x d f) (leb-true x (m .first) (u .0)) (y .0) (y .1)
 
   ran-all : (as′ : Actions) (m : Times) (n : ℕ) (c : Coord) (d : ℕ) (f : Found) (l : Model) → properAll as′ m ≡ true → l .waiting ≡ Idle → Ran m c d l ((doActions as′ n c d f l) .layout) ((doActions as′ n c d f l) .marks)
   ran-all end m n c d f l t e = ran-kept m d e (kept-all end n c d f l refl)

@@ -1,6 +1,7 @@
 -- Each public function's contract decides its whole answer, and what the code buffer holds at exit. Assumes nothing.
 use mathlib.Core.Path.{refl, ap, _∙_, sym}
-use Rattle.decides.specs.Decides.{Decides, both}
+use Rattle.decides.specs.Decides.{Decides}
+use Rattle.decides.proofs.Both.{both}
 use Rattle.layout.proofs.Told.{handed-one, shown-one}
 use Rattle.layout.proofs.layout.Layout.new as N
 use Rattle.layout.proofs.layout.Layout.event as E

@@ -38,20 +38,20 @@ find c [] = None
 find c (q ∷ qs) = cond (isRelease c (q .event)) (At (ageOf q)) (find c qs)
 
 -- what a queued release says of a hold-tap that begins: nothing, or how it is decided at once
-pub data Verdict : Type 0 where
-  Open : Verdict
-  Now : Way → Verdict
+pub data Ruling : Type 0 where
+  Undecided : Ruling
+  AtOnce : Way → Ruling
 
 -- Layout, HoldTap: what the first queued release decides. Nothing is subtracted below 0
-unfoldable pub verdict : ℕ → ℕ → Found → Verdict
-verdict timeout delay None = Open
-verdict timeout delay (At age) = Now (cond (leb (delay - age) timeout) Tap Hold)
+unfoldable pub ruling : ℕ → ℕ → Found → Ruling
+ruling timeout delay None = Undecided
+ruling timeout delay (At age) = AtOnce (cond (leb (delay - age) timeout) Tap Hold)
 
 -- a hold-tap begins, and with a queued release it is decided in the same step
-abbrev pub begins : Verdict → Coord → Model → Done → Done → Done
-begins Open c waits tapped held = marked (Begun c) (still waits)
-begins (Now Tap) c waits tapped held = marked (Begun c) (marked (Decided c Tap) tapped)
-begins (Now Hold) c waits tapped held = marked (Begun c) (marked (Decided c Hold) held)
+abbrev pub begins : Ruling → Coord → Model → Done → Done → Done
+begins Undecided c waits tapped held = marked (Begun c) (still waits)
+begins (AtOnce Tap) c waits tapped held = marked (Begun c) (marked (Decided c Tap) tapped)
+begins (AtOnce Hold) c waits tapped held = marked (Begun c) (marked (Decided c Hold) held)
 
 -- an action runs in a table of n layers, at the coordinates c, with the delay d, where f is the first queued release of
 -- them. The queue is not changed, so f stays the same while an action and the hold-tap that it decides run each other
@@ -65,7 +65,7 @@ unfoldable mutual
   doAction (Layer v) n c d f l = push (LayerModifier v c) l
   doAction (DefaultLayer v) n c d f l = cond (ltb v n) (still (withBase v l)) (still l)
   doAction (HoldTap i timeout hold tap) n c d f l =
-      begins (verdict timeout d f) c
+      begins (ruling timeout d f) c
       (withWaiting (Waits c (timeout - d) i hold tap) l)
       (doAction tap n c 0 f (withWaiting Idle l))
       (doAction hold n c 0 f (withWaiting Idle l))

@@ -58,11 +58,6 @@ abbrev pub toldOf : Answer → Told
 toldOf (answer.Done count notes) = record { number = 0; place = 0; codes = count; notes = notes }
 toldOf (answer.Refused r place) = record { number = numberOf r; place = place; codes = 0; notes = noNotes }
 
--- the answer of a call that is refused, and of one that did nothing yet
-abbrev pub refusedAs : Verdict → Answer
-refusedAs verdict.Fine = answer.Done 0 noNotes
-refusedAs (verdict.Refused r place) = answer.Refused r place
-
 -- all that a call hands back: the number, the place and the values of its answer, the layout, and the buffer that it was lent
 pub record Reply : Type 0 where
   pub told : Told

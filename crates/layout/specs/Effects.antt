@@ -47,14 +47,14 @@ effectIn img c effect added s q =
     record { base = effect .«default_layer»; states = s ++ map (stateOf c) (take (effect .added) added); waiting = waitingOf img (effect .waiting); queue = q }
 
 -- the states, those added among them, are within the capacity
-pub record Roomy (effect : Effect) (added : List ℕ) : Type 0 where
+pub record HasRoom (effect : Effect) (added : List ℕ) : Type 0 where
   pub few : effect .held + effect .added ≤ 64
   pub long : length added ≡ 64
 
 -- one effect comes from another by a step, whatever states were held and whatever is queued
 pub record Effected (img : List ℕ) (c : Coord) (start end : Effect) (before after : List ℕ) (step : Model → Done) : Type 0 where
   pub held : end .held ≡ start .held
-  pub roomy : Roomy end after
+  pub roomy : HasRoom end after
   pub is : (s : List State) → length s ≡ start .held → (q : List Queued) → effectIn img c end after s q ≡ step (effectIn img c start before s q) .layout
   pub notes : (s : List State) → length s ≡ start .held → (q : List Queued) → end .notes ≡ noted (start .notes) (step (effectIn img c start before s q))
 
@@ -71,7 +71,7 @@ abbrev pub Pushes : Effect → Effect → List ℕ → List ℕ → (Coord → S
 Pushes start end before after state = (img : List ℕ) (c : Coord) → Effected img c start end before after (push (state c))
 
 abbrev pub Leaves : Effect → Effect → (List ℕ → Model → Done) → Type 0
-Leaves start end step = (img : List ℕ) (c : Coord) (added : List ℕ) → Roomy start added → Effected img c start end added added (step img)
+Leaves start end step = (img : List ℕ) (c : Coord) (added : List ℕ) → HasRoom start added → Effected img c start end added added (step img)
 
 -- legal codes that the list has; and pushed, one after the other
 abbrev pub Listed : List ℕ → ℕ → ℕ → Type 0

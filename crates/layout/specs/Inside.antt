@@ -5,7 +5,8 @@ use mathlib.Core.List.{List}
 use Prim.Native.Nat.{ℕ, _-_, _≤_}
 use lib.ListN.{length, take}
 use Rattle.lists.specs.Lists.{laid}
-use Rattle.refusal.specs.declared.Verdict.the-variants.{Fine}
+use Rattle.refusal.specs.declared.Verdict.{Verdict}
+use Rattle.refusal.specs.declared.Verdict.the-variants.{Fine, Refused}
 use Rattle.event.specs.declared.Coord.{Coord}
 use Rattle.image.specs.Words.{layersOf}
 use Rattle.image.specs.Sound.{Sound}
@@ -15,7 +16,7 @@ use Rattle.layout.specs.Model.{Queued, Model, Done, ageOf, withWaiting}
 use Rattle.layout.specs.Actions.{find}
 use Rattle.layout.specs.Steps.{codes, pressed, act, into, tickWait}
 use Rattle.layout.specs.Packed.{pad, noSlot, noStacked, statesIn, queuedOf, listIn, waitingOf, waitsAt, modelOf, unpack}
-use Rattle.layout.specs.Notes.{noted}
+use Rattle.layout.specs.Notes.{noNotes, noted}
 use Rattle.layout.specs.Calls.{judgedOf}
 use Rattle.layout.specs.declared.active.Active.{Active}
 use Rattle.layout.specs.declared.active.WaitingState.{WaitingState}
@@ -26,6 +27,7 @@ use Rattle.layout.specs.declared.queue.Stacked.{Stacked}
 use Rattle.layout.specs.declared.queue.Queue.{Queue}
 use Rattle.layout.specs.declared.action.Setting.{Setting}
 use Rattle.layout.specs.declared.effect.Progress.{Progress}
+use Rattle.layout.specs.declared.answer.Answer.{Answer}
 use Rattle.layout.specs.declared.answer.Answer.the-variants as answer
 use Rattle.layout.specs.declared.answer.Answered.{Answered}
 use Rattle.layout.specs.declared.layout.Layout.{Layout}
@@ -83,6 +85,11 @@ waitedOne img w l = tickWait (tableOf img) (w .left - 1) (withWaiting (waitingOf
 pub record JudgedSo (img : List ℕ) (lay : Layout) (room : ℕ) (judged : Judged) : Type 0 where
   pub verdict : judged .verdict ≡ judgedOf img lay room
   pub layers : judged .verdict ≡ Fine → judged .layers ≡ layersOf img
+
+-- the answer of a call that is refused, and of one that did nothing yet
+abbrev pub refusedAs : Verdict → Answer
+refusedAs Fine = answer.Done 0 noNotes
+refusedAs (Refused r place) = answer.Refused r place
 
 -- the answer of a call that was not refused, and its buffer
 abbrev pub Handed : Progress → Queue → Answered → List ℕ → List ℕ → Type 0

@@ -22,13 +22,13 @@ abbrev pub noteActed : Notes → Event → Notes
 noteActed n e = record { acted = acted.On e; made = n .made; first = n .first; second = n .second }
 
 -- a decision behind so many; there is room for two
-abbrev pub placed : ℕ → Decision → Notes → Notes
-placed zero d n = record { acted = n .acted; made = 1; first = d; second = n .second }
-placed (suc zero) d n = record { acted = n .acted; made = 2; first = n .first; second = d }
-placed (suc (suc k)) d n = n
+abbrev pub decisionAt : ℕ → Decision → Notes → Notes
+decisionAt zero d n = record { acted = n .acted; made = 1; first = d; second = n .second }
+decisionAt (suc zero) d n = record { acted = n .acted; made = 2; first = n .first; second = d }
+decisionAt (suc (suc k)) d n = n
 
 abbrev pub noteDecision : Notes → Coord → Way → Notes
-noteDecision n c way = placed (n .made) (decision.Made c way) n
+noteDecision n c way = decisionAt (n .made) (decision.Made c way) n
 
 -- the marks of a step, in their order, put into the notes
 unfoldable pub notedMarks : Notes → List Mark → Notes

@@ -23,7 +23,7 @@ ghost use lib.Dec.{leb};
 ghost use Rattle.image.specs.Sound.{Sound};
 ghost use Rattle.layout.specs.Model as Model;
 ghost use Rattle.layout.specs.Model.{still, marked, withWaiting};
-ghost use Rattle.layout.specs.Effects.{Roomy, Leaves, Listed, CodesPushed, ActionRan, Settled};
+ghost use Rattle.layout.specs.Effects.{HasRoom, Leaves, Listed, CodesPushed, ActionRan, Settled};
 
 // Where and how an action runs: in a table of so many layers, at the coordinates of its key, with its delay, and with the
 // first queued release of them.
@@ -76,7 +76,7 @@ fn push_codes(
     count: u16,
     added: &mut [u32; Layout::STATES],
 ) -> Effect
-    requires { ⌜ Roomy effect (now added) × Listed (now image) first count ⌝ }
+    requires { ⌜ HasRoom effect (now added) × Listed (now image) first count ⌝ }
     ensures { λ r. ⌜ CodesPushed (now (image .entry)) first count effect r (now (added .entry)) (now (added .exit)) ⌝ }
 {
     let mut at = first as usize;
@@ -102,7 +102,7 @@ pub(crate) fn decide(
     way: Way,
     added: &mut [u32; Layout::STATES],
 ) -> Effect
-    requires { ⌜ Sound (now image) × Roomy effect (now added) ⌝ }
+    requires { ⌜ Sound (now image) × HasRoom effect (now added) ⌝ }
     ensures { λ r. ⌜ Settled (now (image .entry)) n setting way effect r (now (added .entry)) (now (added .exit)) ⌝ }
 {
     let coord = setting.coord;
@@ -126,7 +126,7 @@ pub(crate) fn do_action(
     setting: Setting,
     added: &mut [u32; Layout::STATES],
 ) -> Effect
-    requires { ⌜ Sound (now image) × Roomy effect (now added) ⌝ }
+    requires { ⌜ Sound (now image) × HasRoom effect (now added) ⌝ }
     ensures { λ r. ⌜ ActionRan (now (image .entry)) n setting effect r (now (added .entry)) (now (added .exit)) ⌝ }
 {
     let coord = setting.coord;

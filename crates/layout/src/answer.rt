@@ -11,8 +11,8 @@ use refusal::Verdict;
 ghost use mathlib.Core.Path.{_≡_};
 ghost use Prim.Native.Nat.{_≤_};
 ghost use lib.ListN.{length};
-ghost use Rattle.layout.specs.Calls.{toldOf, refusedAs};
-ghost use Rattle.layout.specs.Inside.{Tidy, Handed};
+ghost use Rattle.layout.specs.Calls.{toldOf};
+ghost use Rattle.layout.specs.Inside.{Tidy, refusedAs, Handed};
 
 // How many codes were written, and what was done; or a refusal and its place.
 pub enum Answer {

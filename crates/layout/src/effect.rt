@@ -17,7 +17,7 @@ ghost use Rattle.codes.specs.Codes.{legal};
 ghost use Rattle.layout.specs.Model.{still, withBase, withWaiting};
 ghost use Rattle.layout.specs.Packed.{waitingOf, waitsAt};
 ghost use Rattle.layout.specs.Inside.{Tidy};
-ghost use Rattle.layout.specs.Effects.{stateOf, effectOf, Roomy, Pushes, Leaves, Grown};
+ghost use Rattle.layout.specs.Effects.{stateOf, effectOf, HasRoom, Pushes, Leaves, Grown};
 
 // How far a call has come: what it has changed, and what it has done.
 pub(crate) struct Progress {
@@ -66,7 +66,7 @@ fn state_of(number: u32, coord: Coord) -> State
 
 // One state more. A 65th is dropped.
 fn push(effect: Effect, number: u32, added: &mut [u32; Layout::STATES]) -> Effect
-    requires { ⌜ Roomy effect (now added) ⌝ }
+    requires { ⌜ HasRoom effect (now added) ⌝ }
     ensures { λ r. ⌜ Pushes effect r (now (added .entry)) (now (added .exit)) (λ c. stateOf c number) ⌝ }
 {
     let n = effect.added;
@@ -81,7 +81,7 @@ fn push(effect: Effect, number: u32, added: &mut [u32; Layout::STATES]) -> Effec
 
 // A key's code held.
 pub(crate) fn push_key(effect: Effect, code: u16, added: &mut [u32; Layout::STATES]) -> Effect
-    requires { ⌜ Roomy effect (now added) × (legal code ≡ true) ⌝ }
+    requires { ⌜ HasRoom effect (now added) × (legal code ≡ true) ⌝ }
     ensures { λ r. ⌜ Pushes effect r (now (added .entry)) (now (added .exit)) (λ c. State.NormalKey code c) ⌝ }
 {
     push(effect, code as u32, added)
@@ -89,7 +89,7 @@ pub(crate) fn push_key(effect: Effect, code: u16, added: &mut [u32; Layout::STAT
 
 // A layer held.
 pub(crate) fn push_layer(effect: Effect, value: u16, added: &mut [u32; Layout::STATES]) -> Effect
-    requires { ⌜ Roomy effect (now added) ⌝ }
+    requires { ⌜ HasRoom effect (now added) ⌝ }
     ensures { λ r. ⌜ Pushes effect r (now (added .entry)) (now (added .exit)) (λ c. State.LayerModifier value c) ⌝ }
 {
     push(effect, 65536 + (value as u32), added)
@@ -133,7 +133,7 @@ pub(crate) fn after_effect(
     added: &[u32; Layout::STATES],
     coord: Coord,
 ) -> Progress
-    requires { ⌜ Tidy active × Roomy effect (now added) × (effect .held ≡ active .len) ⌝ }
+    requires { ⌜ Tidy active × HasRoom effect (now added) × (effect .held ≡ active .len) ⌝ }
     ensures { λ r. ⌜ Grown active effect (now (added .entry)) coord r ⌝ }
 {
     let held = effect.held;

@@ -10,7 +10,7 @@ use lib.Dec.{leb}
 use lib.ListN.{length, getD, drop, drop-of-length-le}
 use lib.Seq.{drop-cons}
 use Rattle.lists.specs.Lists.{every}
-use Rattle.number.specs.Number.{isDigit, comesTo, readBehind, numberOf, atMost, numberWithin, valuesOf}
+use Rattle.number.specs.Number.{isDigit, comesTo, readBehind, readDecimal, notAbove, readWithin, valuesOf}
 use Rattle.number.specs.declared.Number.{Number}
 use Rattle.number.specs.declared.Number.the-variants.{Value, Unread}
 
@@ -59,42 +59,42 @@ unfolding readBehind every comesTo
 read-end n l i past h = rw (drop-of-length-le l past, le-leb n 65535 h)
 
 -- a word by its length
-pub number-none : (l : List ℕ) → length l ≡ 0 → numberOf l ≡ Unread
-unfolding numberOf
+pub number-none : (l : List ℕ) → length l ≡ 0 → readDecimal l ≡ Unread
+unfolding readDecimal
 number-none [] e = refl
 number-none (c ∷ cs) e = absurd (omega arith)
 
-pub number-some : (l : List ℕ) → (length l ≡ 0 → ⊥) → numberOf l ≡ readBehind 0 l
-unfolding numberOf
+pub number-some : (l : List ℕ) → (length l ≡ 0 → ⊥) → readDecimal l ≡ readBehind 0 l
+unfolding readDecimal
 number-some [] n = absurd (n refl)
 number-some (c ∷ cs) n = refl
 
 -- a number that has to be within bounds: the word is too long, it is no number, the number is too large, or it is good
 module _ (digits largest : ℕ) (word : List ℕ) where
-  pub within-long : digits < length word → numberWithin digits largest word ≡ Unread
-  unfolding numberWithin
+  pub within-long : digits < length word → readWithin digits largest word ≡ Unread
+  unfolding readWithin
   within-long h = rw (lt-leb (length word) digits h)
 
   module _ (short : length word ≤ digits) where
-    within-short : numberWithin digits largest word ≡ atMost largest (numberOf word)
-    unfolding numberWithin
+    within-short : readWithin digits largest word ≡ notAbove largest (readDecimal word)
+    unfolding readWithin
     within-short = rw (le-leb (length word) digits short)
 
-    pub within-none : numberOf word ≡ Unread → numberWithin digits largest word ≡ Unread
-    within-none e = within-short ∙ ap (atMost largest) e
+    pub within-none : readDecimal word ≡ Unread → readWithin digits largest word ≡ Unread
+    within-none e = within-short ∙ ap (notAbove largest) e
 
-    pub within-large : (n : ℕ) → numberOf word ≡ Value n → largest < n → numberWithin digits largest word ≡ Unread
-    within-large n e h = within-short ∙ ap (atMost largest) e ∙ rw (lt-leb n largest h)
+    pub within-large : (n : ℕ) → readDecimal word ≡ Value n → largest < n → readWithin digits largest word ≡ Unread
+    within-large n e h = within-short ∙ ap (notAbove largest) e ∙ rw (lt-leb n largest h)
 
-    pub within-good : (n : ℕ) → numberOf word ≡ Value n → n ≤ largest → numberWithin digits largest word ≡ Value n
-    within-good n e h = within-short ∙ ap (atMost largest) e ∙ rw (le-leb n largest h)
+    pub within-good : (n : ℕ) → readDecimal word ≡ Value n → n ≤ largest → readWithin digits largest word ≡ Value n
+    within-good n e h = within-short ∙ ap (notAbove largest) e ∙ rw (le-leb n largest h)
 
 -- so what comes of it is no larger
 abbrev valueIn : Number → ℕ
 valueIn (Value n) = n
 valueIn Unread = 0
 
-most-small : (largest : ℕ) (x : Number) → valueIn (atMost largest x) ≤ largest
+most-small : (largest : ℕ) (x : Number) → valueIn (notAbove largest x) ≤ largest
 most-small largest (Value n) = go (leb n largest) refl
   where
     go : (t : Bool) → leb n largest ≡ t → valueIn (cond t (Value n) Unread) ≤ largest
@@ -102,15 +102,15 @@ most-small largest (Value n) = go (leb n largest) refl
     go false e = omega arith
 most-small largest Unread = omega arith
 
-within-small : (digits largest : ℕ) (word : List ℕ) → valueIn (numberWithin digits largest word) ≤ largest
-unfolding numberWithin
+within-small : (digits largest : ℕ) (word : List ℕ) → valueIn (readWithin digits largest word) ≤ largest
+unfolding readWithin
 within-small digits largest word = go (leb (length word) digits)
   where
-    go : (t : Bool) → valueIn (cond t (atMost largest (numberOf word)) Unread) ≤ largest
-    go true = most-small largest (numberOf word)
+    go : (t : Bool) → valueIn (cond t (notAbove largest (readDecimal word)) Unread) ≤ largest
+    go true = most-small largest (readDecimal word)
     go false = omega arith
 
-pub within-fits : (digits largest : ℕ) (word : List ℕ) (n : ℕ) → numberWithin digits largest word ≡ Value n → n ≤ largest
+pub within-fits : (digits largest : ℕ) (word : List ℕ) (n : ℕ) → readWithin digits largest word ≡ Value n → n ≤ largest
 within-fits digits largest word n e = omega (arith, ap valueIn e, within-small digits largest word)
 
 -- what was read is known by its values

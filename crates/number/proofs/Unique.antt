@@ -1,6 +1,7 @@
 -- Each public function's contract decides its whole answer: the number that was read is told by its values. Assumes nothing.
 use mathlib.Core.Path.{refl, _∙_, sym}
-use Rattle.decides.specs.Decides.{Decides, both}
+use Rattle.decides.specs.Decides.{Decides}
+use Rattle.decides.proofs.Both.{both}
 use Rattle.number.proofs.Read.{number-one}
 use Rattle.number.proofs.decimal as I
 use Rattle.number.proofs.decimal_within as W

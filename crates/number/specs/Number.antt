@@ -22,17 +22,17 @@ unfoldable pub readBehind : ℕ → List ℕ → Number
 readBehind n cs = cond (every isDigit cs && leb (comesTo n cs) 65535) (Value (comesTo n cs)) Unread
 
 -- a word that is a number: not empty, digits alone, zeros in front or not, at most 65,535
-unfoldable pub numberOf : List ℕ → Number
-numberOf [] = Unread
-numberOf (c ∷ cs) = readBehind 0 (c ∷ cs)
+unfoldable pub readDecimal : List ℕ → Number
+readDecimal [] = Unread
+readDecimal (c ∷ cs) = readBehind 0 (c ∷ cs)
 
 -- a number that is at most so large, and is written with at most so many digits
-abbrev pub atMost : ℕ → Number → Number
-atMost largest (Value n) = cond (leb n largest) (Value n) Unread
-atMost largest Unread = Unread
+abbrev pub notAbove : ℕ → Number → Number
+notAbove largest (Value n) = cond (leb n largest) (Value n) Unread
+notAbove largest Unread = Unread
 
-unfoldable pub numberWithin : ℕ → ℕ → List ℕ → Number
-numberWithin digits largest word = cond (leb (length word) digits) (atMost largest (numberOf word)) Unread
+unfoldable pub readWithin : ℕ → ℕ → List ℕ → Number
+readWithin digits largest word = cond (leb (length word) digits) (notAbove largest (readDecimal word)) Unread
 
 -- the values of what was read: the number; nothing
 abbrev pub valuesOf : Number → List ℕ

@@ -1,6 +1,6 @@
 // Numbers written in decimal, read. Assumes nothing.
 ghost use mathlib.Core.Path.{_≡_};
-ghost use Rattle.number.specs.Number.{numberOf, numberWithin, valuesOf};
+ghost use Rattle.number.specs.Number.{readDecimal, readWithin, valuesOf};
 
 pub enum Number {
     Value(u16),
@@ -9,7 +9,7 @@ pub enum Number {
 
 // A word of one or more decimal digits, as many as there are and with zeros in front or not, of value at most 65,535.
 pub fn decimal(word: &[u8]) -> Number
-    ensures { λ r. ⌜ valuesOf r ≡ valuesOf (numberOf (now (word .entry))) ⌝ }
+    ensures { λ r. ⌜ valuesOf r ≡ valuesOf (readDecimal (now (word .entry))) ⌝ }
 {
     if word.len() == 0 {
         return Number::Unread;
@@ -35,7 +35,7 @@ pub fn decimal(word: &[u8]) -> Number
 
 // The same of at most so many digits, and of value at most so much.
 pub fn decimal_within(word: &[u8], digits: usize, largest: u16) -> Number
-    ensures { λ r. ⌜ valuesOf r ≡ valuesOf (numberWithin digits largest (now (word .entry))) ⌝ }
+    ensures { λ r. ⌜ valuesOf r ≡ valuesOf (readWithin digits largest (now (word .entry))) ⌝ }
 {
     if digits < word.len() {
         return Number::Unread;

@@ -1,6 +1,7 @@
 -- The public function's contract decides its whole answer. Assumes nothing.
 use mathlib.Core.Path.{refl, _∙_, sym}
-use Rattle.decides.specs.Decides.{Decides, both}
+use Rattle.decides.specs.Decides.{Decides}
+use Rattle.decides.proofs.Both.{both}
 use Rattle.panel_body.proofs.run as R
 
 pub run : Decides R.ended (λ M. R.spec) (λ M. R.clauses)

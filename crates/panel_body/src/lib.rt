@@ -3,19 +3,18 @@
 // with a line and written for it is promised (`answer`); of reading and writing nothing can be. Assumes nothing.
 mod table;
 
+use console::advance;
 use console::write_line;
 use image::Checked;
 use layout::Answered;
 use layout::Layout;
-use libc::STDIN_FILENO;
 use panel_line::Line;
 use panel_line::answer_line;
 use panel_line::read_line;
 use table::Taken;
-use text::Place;
+use text::Reading;
 use text::Text;
 use text::front;
-use text::gather;
 use text::refused;
 use text::unread;
 ghost use mathlib.Core.Path.{_≡_};
@@ -38,7 +37,7 @@ struct Done {
 // How things stand after a step: the layout, and where reading stands.
 struct Stand {
     layout: Layout,
-    place: Place,
+    reading: Reading,
 }
 
 // What a call answered, and the codes that it wrote. A call is not refused here: the image is accepted and the layout is one
@@ -77,16 +76,6 @@ fn answer(image: &[u8], layout: Layout, line: &[u8]) -> Done
     }
 }
 
-// A part of a line, up to its end if that is here; or a read, where all that was here is taken. A read that fails is the end
-// of the input.
-fn advance(input: &mut [u8; INPUT], line: &mut [u8; LINE], place: Place) -> Place {
-    if place.end <= place.at {
-        let got = libc::read(STDIN_FILENO, input);
-        return place.filled(io::count(got, input));
-    }
-    gather(input, line, place)
-}
-
 // The answer to the line that is held.
 fn reply(image: &[u8], layout: Layout, line: &[u8]) -> Layout {
     let done = answer(image, layout, line);
@@ -98,14 +87,14 @@ fn reply(image: &[u8], layout: Layout, line: &[u8]) -> Layout {
 // A step of reading, and the answer to the line that is held, where it ended.
 fn step(image: &[u8], input: &mut [u8; INPUT], line: &mut [u8; LINE], stand: Stand) -> Stand {
     let layout = stand.layout;
-    let before = stand.place;
-    let place = advance(input, line, before);
-    if !place.ended {
-        return Stand { layout, place };
+    let before = stand.reading;
+    let reading = advance(input, line, before);
+    if !reading.ended {
+        return Stand { layout, reading };
     }
     Stand {
-        layout: reply(image, layout, front(line, place.held)),
-        place: place.answered(),
+        layout: reply(image, layout, front(line, reading.held)),
+        reading: reading.answered(),
     }
 }
 
@@ -114,14 +103,14 @@ fn step(image: &[u8], input: &mut [u8; INPUT], line: &mut [u8; LINE], stand: Sta
 fn answer_all(image: &[u8], input: &mut [u8; INPUT], line: &mut [u8; LINE]) {
     let mut stand = Stand {
         layout: Layout::new(),
-        place: Place::start(),
+        reading: Reading::start(),
     };
     let mut turns = u64::MAX;
     let mut over = false;
     while turns > 0 && !over {
         stand = step(image, input, line, stand);
-        let place = stand.place;
-        over = place.over;
+        let reading = stand.reading;
+        over = reading.over;
         turns -= 1;
     }
 }

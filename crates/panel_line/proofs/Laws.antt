@@ -12,10 +12,10 @@ use lib.Seq.{drop-cons, take-length}
 use Rattle.codes.specs.Report.{reportOf}
 use Rattle.text.specs.Text.{hexOf}
 use Rattle.text.specs.Reply.{refusedLine}
-use Rattle.number.specs.Number.{numberOf, numberWithin}
+use Rattle.number.specs.Number.{readDecimal, readWithin}
 use Rattle.number.specs.declared.Number.{Number}
 use Rattle.number.specs.declared.Number.the-variants.{Value, Unread}
-use Rattle.panel_line.specs.Line.{spaceAt, pair, coordsOf, pressAt, releaseAt, opens, lineOf}
+use Rattle.panel_line.specs.Line.{spaceAt, pair, coordsOf, pressAt, releaseAt, startsWith, lineOf}
 use Rattle.panel_line.specs.Print.{answerLine}
 use Rattle.panel_line.specs.declared.Coords.the-variants.{At, Nowhere}
 use Rattle.panel_line.specs.declared.Line.the-variants as line
@@ -40,30 +40,30 @@ pair-column (Value i) = refl
 pair-column Unread = refl
 
 -- no space, no second number
-none-past : (l : List ℕ) → spaceAt l ≡ length l → numberWithin 3 255 (drop (spaceAt l + 1) l) ≡ Unread
-unfolding numberWithin numberOf
+none-past : (l : List ℕ) → spaceAt l ≡ length l → readWithin 3 255 (drop (spaceAt l + 1) l) ≡ Unread
+unfolding readWithin readDecimal
 none-past l e =
     let past : length l ≤ spaceAt l + 1 = omega arith in
-    ap (numberWithin 3 255) (drop-of-length-le l past)
+    ap (readWithin 3 255) (drop-of-length-le l past)
 
 pub coords-none : (l : List ℕ) → spaceAt l ≡ length l → coordsOf l ≡ Nowhere
 unfolding coordsOf
-coords-none l e = rw (none-past l e) (pair-column (numberWithin 3 255 (take (spaceAt l) l)))
+coords-none l e = rw (none-past l e) (pair-column (readWithin 3 255 (take (spaceAt l) l)))
 
 -- the two numbers, as the code finds them
 module _ (l : List ℕ) (n : ℕ) (e : n ≡ spaceAt l) where
-  coords-are : coordsOf l ≡ pair (numberWithin 3 255 (take n l)) (numberWithin 3 255 (take (length l - (n + 1)) (drop (n + 1) l)))
+  coords-are : coordsOf l ≡ pair (readWithin 3 255 (take n l)) (readWithin 3 255 (take (length l - (n + 1)) (drop (n + 1) l)))
   unfolding coordsOf
   coords-are = rw (rest-is l (n + 1), e)
 
-  pub coords-row : numberWithin 3 255 (take n l) ≡ Unread → coordsOf l ≡ Nowhere
+  pub coords-row : readWithin 3 255 (take n l) ≡ Unread → coordsOf l ≡ Nowhere
   coords-row f = coords-are ∙ rw f
 
-  pub coords-column : numberWithin 3 255 (take (length l - (n + 1)) (drop (n + 1) l)) ≡ Unread → coordsOf l ≡ Nowhere
-  coords-column g = coords-are ∙ rw g (pair-column (numberWithin 3 255 (take n l)))
+  pub coords-column : readWithin 3 255 (take (length l - (n + 1)) (drop (n + 1) l)) ≡ Unread → coordsOf l ≡ Nowhere
+  coords-column g = coords-are ∙ rw g (pair-column (readWithin 3 255 (take n l)))
 
-  pub coords-both : (i j : ℕ) → numberWithin 3 255 (take n l) ≡ Value i
-      → numberWithin 3 255 (take (length l - (n + 1)) (drop (n + 1) l)) ≡ Value j → coordsOf l ≡ At i j
+  pub coords-both : (i j : ℕ) → readWithin 3 255 (take n l) ≡ Value i
+      → readWithin 3 255 (take (length l - (n + 1)) (drop (n + 1) l)) ≡ Value j → coordsOf l ≡ At i j
   coords-both i j f g = coords-are ∙ rw (f, g)
 
 -- a line, by its length, its letter and its space
@@ -72,32 +72,32 @@ unfolding lineOf
 line-tick l n e = rw (n, e)
 
 pub line-one : (l : List ℕ) → length l ≡ 1 → (getD l 0 0 ≡ 116 → ⊥) → lineOf l ≡ line.Unread
-unfolding lineOf opens
+unfolding lineOf startsWith
 line-one [] n e = absurd (omega arith)
 line-one (a ∷ []) n e = rw (ne-eqb a 116 e, and-false (eqb a 112), and-false (eqb a 114))
 line-one (a ∷ b ∷ l) n e = absurd (omega arith)
 
 pub line-none : (l : List ℕ) → (length l ≡ 1 → ⊥) → length l < 2 → lineOf l ≡ line.Unread
-unfolding lineOf opens
+unfolding lineOf startsWith
 line-none [] n h = refl
 line-none (a ∷ []) n h = absurd (n refl)
 line-none (a ∷ b ∷ l) n h = absurd (omega arith)
 
 module _ (l : List ℕ) (n : length l ≡ 1 → ⊥) where
   pub line-parted : (getD l 1 0 ≡ 32 → ⊥) → lineOf l ≡ line.Unread
-  unfolding lineOf opens
+  unfolding lineOf startsWith
   line-parted e = rw (ne-eqb (length l) 1 n, ne-eqb (getD l 1 0) 32 e, and-false (eqb (getD l 0 0) 112), and-false (eqb (getD l 0 0) 114))
 
   pub line-press : getD l 1 0 ≡ 32 → getD l 0 0 ≡ 112 → lineOf l ≡ pressAt (coordsOf (drop 2 l))
-  unfolding lineOf opens
+  unfolding lineOf startsWith
   line-press e p = rw (ne-eqb (length l) 1 n, e, p)
 
   pub line-release : getD l 1 0 ≡ 32 → getD l 0 0 ≡ 114 → lineOf l ≡ releaseAt (coordsOf (drop 2 l))
-  unfolding lineOf opens
+  unfolding lineOf startsWith
   line-release e p = rw (ne-eqb (length l) 1 n, e, p)
 
   pub line-other : (getD l 0 0 ≡ 112 → ⊥) → (getD l 0 0 ≡ 114 → ⊥) → lineOf l ≡ line.Unread
-  unfolding lineOf opens
+  unfolding lineOf startsWith
   line-other p r = rw (ne-eqb (length l) 1 n, ne-eqb (getD l 0 0) 112 p, ne-eqb (getD l 0 0) 114 r)
 
 -- the answer of a call, by its number

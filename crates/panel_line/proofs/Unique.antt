@@ -1,6 +1,7 @@
 -- Each public function's contract decides its whole answer. Assumes nothing.
 use mathlib.Core.Path.{refl, _∙_, sym}
-use Rattle.decides.specs.Decides.{Decides, both}
+use Rattle.decides.specs.Decides.{Decides}
+use Rattle.decides.proofs.Both.{both}
 use Rattle.panel_line.proofs.Says.{says-one}
 use Rattle.panel_line.proofs.read_line as R
 use Rattle.panel_line.proofs.print.answer_line as A

@@ -7,7 +7,7 @@ use lib.Dec.{eqb}
 use lib.ListN.{length, getD, take, drop}
 use Rattle.event.specs.Bytes.{bytesOf}
 use Rattle.event.specs.declared.Event.the-variants.{Press, Release}
-use Rattle.number.specs.Number.{numberWithin}
+use Rattle.number.specs.Number.{readWithin}
 use Rattle.number.specs.declared.Number.{Number}
 use Rattle.number.specs.declared.Number.the-variants as number
 use Rattle.panel_line.specs.declared.Coords.{Coords}
@@ -28,7 +28,7 @@ pair number.Unread column = Nowhere
 
 -- two numbers with one space between them, each of one to three digits and up to 255
 unfoldable pub coordsOf : List ℕ → Coords
-coordsOf cs = pair (numberWithin 3 255 (take (spaceAt cs) cs)) (numberWithin 3 255 (drop (spaceAt cs + 1) cs))
+coordsOf cs = pair (readWithin 3 255 (take (spaceAt cs) cs)) (readWithin 3 255 (drop (spaceAt cs + 1) cs))
 
 -- a press and a release there
 abbrev pub pressAt : Coords → Line
@@ -40,15 +40,15 @@ releaseAt (At i j) = Key (Release i j)
 releaseAt Nowhere = Unread
 
 -- the line is this letter, a space and something more
-unfoldable pub opens : ℕ → List ℕ → Bool
-opens letter cs = eqb (getD cs 0 0) letter && eqb (getD cs 1 0) 32
+unfoldable pub startsWith : ℕ → List ℕ → Bool
+startsWith letter cs = eqb (getD cs 0 0) letter && eqb (getD cs 1 0) 32
 
 -- `t`; or `p` or `r` with row and column; anything else cannot be read
 unfoldable pub lineOf : List ℕ → Line
 lineOf cs =
     cond (eqb (length cs) 1 && eqb (getD cs 0 0) 116) Tick
-    (cond (opens 112 cs) (pressAt (coordsOf (drop 2 cs)))
-    (cond (opens 114 cs) (releaseAt (coordsOf (drop 2 cs))) Unread))
+    (cond (startsWith 112 cs) (pressAt (coordsOf (drop 2 cs)))
+    (cond (startsWith 114 cs) (releaseAt (coordsOf (drop 2 cs))) Unread))
 
 -- the values of what a line says: an event's three bytes; a tick's letter; nothing
 abbrev pub saysOf : Line → List ℕ

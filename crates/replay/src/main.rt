@@ -17,15 +17,14 @@ use commands::Call;
 use commands::Command;
 use commands::Part;
 use commands::Table;
+use console::advance;
 use console::write_line;
 use debounce::Debouncer;
 use keyboard::Keyboard;
 use layout::Layout;
-use libc::STDIN_FILENO;
-use text::Place;
+use text::Reading;
 use text::Text;
 use text::front;
-use text::gather;
 use words::Bytes;
 
 // How much one read brings, and the longest line.
@@ -53,7 +52,7 @@ struct Done {
 // How things stand after a step.
 struct Stand {
     desk: Desk,
-    place: Place,
+    reading: Reading,
 }
 
 // Before the first line: an empty image with a fresh layout, 64 bytes for codes and 384 for events, a fresh keyboard, and
@@ -175,16 +174,6 @@ fn answer(line: &[u8], table: &mut [u8; table::ROOM], desk: Desk) -> Done {
     }
 }
 
-// A part of a line, up to its end if that is here; or a read, where all that was here is taken. A read that fails is the end
-// of the input.
-fn advance(input: &mut [u8; INPUT], line: &mut [u8; LINE], place: Place) -> Place {
-    if place.end <= place.at {
-        let got = libc::read(STDIN_FILENO, input);
-        return place.filled(io::count(got, input));
-    }
-    gather(input, line, place)
-}
-
 // The answer to the line that is held.
 fn reply(line: &[u8; LINE], held: usize, table: &mut [u8; table::ROOM], desk: Desk) -> Desk {
     let done = answer(front(line, held), table, desk);
@@ -201,14 +190,14 @@ fn step(
     stand: Stand,
 ) -> Stand {
     let desk = stand.desk;
-    let before = stand.place;
-    let place = advance(input, line, before);
-    if !place.ended {
-        return Stand { desk, place };
+    let before = stand.reading;
+    let reading = advance(input, line, before);
+    if !reading.ended {
+        return Stand { desk, reading };
     }
     Stand {
-        desk: reply(line, place.held, table, desk),
-        place: place.answered(),
+        desk: reply(line, reading.held, table, desk),
+        reading: reading.answered(),
     }
 }
 
@@ -217,14 +206,14 @@ fn step(
 fn run(input: &mut [u8; INPUT], line: &mut [u8; LINE], table: &mut [u8; table::ROOM]) {
     let mut stand = Stand {
         desk: start(),
-        place: Place::start(),
+        reading: Reading::start(),
     };
     let mut turns = u64::MAX;
     let mut over = false;
     while turns > 0 && !over {
         stand = step(input, line, table, stand);
-        let place = stand.place;
-        over = place.over;
+        let reading = stand.reading;
+        over = reading.over;
         turns -= 1;
     }
 }

@@ -8,11 +8,11 @@ use lib.Dec.{ltb}
 use borrow.Author.Tests.{lt-ltb, le-ltb, le-leb, lt-leb, ne-eqb}
 use lib.ListN.{length, getD, set, take, drop}
 use lib.Seq.{drop-cons, length-take-le, paste}
-use Rattle.text.specs.declared.input.Place.{Place}
+use Rattle.text.specs.declared.input.Reading.{Reading}
 use Rattle.text.specs.declared.text.Text.{Text}
 use Rattle.text.specs.Text.{put, putAll, glyphOf, hexOf, placeOf, decimalOf}
 use Rattle.text.specs.Reply.{refusedLine}
-use Rattle.text.specs.Input.{lineLength, countOf, appended, within, rest, gatheredPlace, gatheredLine}
+use Rattle.text.specs.Input.{lineLength, heldAfter, joined, inInput, rest, gatheredReading, gatheredLine}
 
 -- a text with room, and a full one
 pub put-room : (t : Text) (b : ℕ) → t .len < 1024 → put t b ≡ record { len = t .len + 1; bytes = set (t .bytes) (t .len) b }
@@ -76,50 +76,50 @@ unfolding lineLength
 line-on l at h n = rw (add-one, drop-cons l at 0, ne-eqb _ _ n)
 
 -- k bytes behind n, where they fit and where not
-pub count-fits : (size n k : ℕ) → n + k ≤ size → countOf size n k ≡ n + k
-unfolding countOf
-count-fits size n k h = rw (le-leb (n + k) size h)
+pub held-fits : (size n k : ℕ) → n + k ≤ size → heldAfter size n k ≡ n + k
+unfolding heldAfter
+held-fits size n k h = rw (le-leb (n + k) size h)
 
-pub count-past : (size n k : ℕ) → size < n + k → countOf size n k ≡ size + 1
-unfolding countOf
-count-past size n k h = rw (lt-leb (n + k) size h)
+pub held-past : (size n k : ℕ) → size < n + k → heldAfter size n k ≡ size + 1
+unfolding heldAfter
+held-past size n k h = rw (lt-leb (n + k) size h)
 
-pub appended-fits : (l : List ℕ) (n : ℕ) (bs : List ℕ) → n + length bs ≤ length l → appended l n bs ≡ paste l n bs (length bs)
-unfolding appended
-appended-fits l n bs h = rw (le-leb (n + length bs) (length l) h)
+pub joined-fits : (l : List ℕ) (n : ℕ) (bs : List ℕ) → n + length bs ≤ length l → joined l n bs ≡ paste l n bs (length bs)
+unfolding joined
+joined-fits l n bs h = rw (le-leb (n + length bs) (length l) h)
 
-pub appended-past : (l : List ℕ) (n : ℕ) (bs : List ℕ) → length l < n + length bs → appended l n bs ≡ l
-unfolding appended
-appended-past l n bs h = rw (lt-leb (n + length bs) (length l) h)
+pub joined-past : (l : List ℕ) (n : ℕ) (bs : List ℕ) → length l < n + length bs → joined l n bs ≡ l
+unfolding joined
+joined-past l n bs h = rw (lt-leb (n + length bs) (length l) h)
 
-pub within-yes : (input : List ℕ) (p : Place) → p .at ≤ p .end → p .end ≤ length input → within input p ≡ true
-unfolding within
-within-yes input p h k = rw (le-leb (p .at) (p .end) h, le-leb (p .end) (length input) k)
+pub in-input : (input : List ℕ) (p : Reading) → p .at ≤ p .end → p .end ≤ length input → inInput input p ≡ true
+unfolding inInput
+in-input input p h k = rw (le-leb (p .at) (p .end) h, le-leb (p .end) (length input) k)
 
-pub within-before : (input : List ℕ) (p : Place) → p .end < p .at → within input p ≡ false
-unfolding within
-within-before input p h = rw (lt-leb (p .at) (p .end) h)
+pub in-input-before : (input : List ℕ) (p : Reading) → p .end < p .at → inInput input p ≡ false
+unfolding inInput
+in-input-before input p h = rw (lt-leb (p .at) (p .end) h)
 
-pub within-past : (input : List ℕ) (p : Place) → length input < p .end → within input p ≡ false
-unfolding within
-within-past input p h = rw (lt-leb (p .end) (length input) h, and-false)
+pub in-input-past : (input : List ℕ) (p : Reading) → length input < p .end → inInput input p ≡ false
+unfolding inInput
+in-input-past input p h = rw (lt-leb (p .end) (length input) h, and-false)
 
-pub place-stays : (input : List ℕ) (size : ℕ) (p : Place) → within input p ≡ false → gatheredPlace input size p ≡ p
-unfolding gatheredPlace
-place-stays input size p e = rw e
+pub reading-stays : (input : List ℕ) (size : ℕ) (p : Reading) → inInput input p ≡ false → gatheredReading input size p ≡ p
+unfolding gatheredReading
+reading-stays input size p e = rw e
 
-pub line-stays : (input line : List ℕ) (p : Place) → within input p ≡ false → gatheredLine input line p ≡ line
+pub line-stays : (input line : List ℕ) (p : Reading) → inInput input p ≡ false → gatheredLine input line p ≡ line
 unfolding gatheredLine
 line-stays input line p e = rw e
 
 -- as much of the line as is here, n bytes, behind what is held
-module _ (input line : List ℕ) (p : Place) (w : within input p ≡ true) (n : ℕ) (e : n ≡ lineLength (rest input p)) (fits : n ≤ length (rest input p)) where
-  pub place-after : (held : ℕ) → held ≡ countOf (length line) (p .held) (length (take n (rest input p)))
-      → record { at = p .at + n + 1; end = p .end; held = held; ended = ltb n (length (rest input p)); over = p .over } ≡ gatheredPlace input (length line) p
-  unfolding gatheredPlace
-  place-after held h = rw (w, h, length-take-le n (rest input p) fits, e)
+module _ (input line : List ℕ) (p : Reading) (w : inInput input p ≡ true) (n : ℕ) (e : n ≡ lineLength (rest input p)) (fits : n ≤ length (rest input p)) where
+  pub reading-after : (held : ℕ) → held ≡ heldAfter (length line) (p .held) (length (take n (rest input p)))
+      → record { at = p .at + n + 1; end = p .end; held = held; ended = ltb n (length (rest input p)); over = p .over } ≡ gatheredReading input (length line) p
+  unfolding gatheredReading
+  reading-after held h = rw (w, h, length-take-le n (rest input p) fits, e)
 
-  pub line-after : (after : List ℕ) → after ≡ appended line (p .held) (take n (rest input p)) → after ≡ gatheredLine input line p
+  pub line-after : (after : List ℕ) → after ≡ joined line (p .held) (take n (rest input p)) → after ≡ gatheredLine input line p
   unfolding gatheredLine
   line-after after h = rw (w, h, e)
 

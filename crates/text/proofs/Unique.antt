@@ -3,10 +3,11 @@ use mathlib.Core.Path.{refl, ap, _∙_, sym}
 use mathlib.Core.List.{List}
 use Prim.Native.Nat.{ℕ}
 use denote.Ref.{now}
-use Rattle.decides.specs.Decides.{Decides, DecidesAs, both}
-use Rattle.text.proofs.input.Place.start as S
-use Rattle.text.proofs.input.Place.filled as F
-use Rattle.text.proofs.input.Place.answered as D
+use Rattle.decides.specs.Decides.{Decides, DecidesAs}
+use Rattle.decides.proofs.Both.{both}
+use Rattle.text.proofs.input.Reading.start as S
+use Rattle.text.proofs.input.Reading.filled as F
+use Rattle.text.proofs.input.Reading.answered as D
 use Rattle.text.proofs.input.front as R
 use Rattle.text.proofs.input.gather as G
 use Rattle.text.proofs.reply.unread as U

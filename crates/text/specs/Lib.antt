@@ -1,3 +1,4 @@
 pub mod Input
+pub mod Inside
 pub mod Reply
 pub mod Text

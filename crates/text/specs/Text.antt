@@ -21,8 +21,8 @@ unfoldable pub saying : List ℕ → Text
 saying bs = putAll (record { len = 0; bytes = replicate 1024 0 }) bs
 
 -- what a text holds
-unfoldable pub held : Text → List ℕ
-held t = take (t .len) (t .bytes)
+unfoldable pub contents : Text → List ℕ
+contents t = take (t .len) (t .bytes)
 
 -- the last hex digit of a number
 unfoldable pub glyphOf : ℕ → ℕ

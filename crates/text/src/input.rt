@@ -4,11 +4,12 @@ ghost use Prim.Native.Nat.{_≤_};
 ghost use mathlib.Core.Bool.{false};
 ghost use mathlib.Core.Path.{_≡_};
 ghost use lib.ListN.{length};
-ghost use Rattle.text.specs.Input.{lineLength, frontOf, filledOf, answeredOf, Appends, Gathers};
+ghost use Rattle.text.specs.Input.{lineLength, frontOf, filledOf, answeredOf, Gathers};
+ghost use Rattle.text.specs.Inside.{Appends};
 
 // Where reading stands: the input's buffer is taken up to `at` and filled up to `end`; `held` bytes of the line are here,
 // one more than its buffer has where it does not fit. Whether the line has ended, and the input.
-pub struct Place {
+pub struct Reading {
     pub at: usize,
     pub end: usize,
     pub held: usize,
@@ -16,12 +17,12 @@ pub struct Place {
     pub over: bool,
 }
 
-impl Place {
+impl Reading {
     // Before the first read.
-    pub fn start() -> Place
+    pub fn start() -> Reading
         ensures { λ r. ⌜ r ≡ record { at = 0; end = 0; held = 0; ended = false; over = false } ⌝ }
     {
-        Place {
+        Reading {
             at: 0,
             end: 0,
             held: 0,
@@ -31,11 +32,11 @@ impl Place {
     }
 
     // A read brought so many bytes. None is the end of the input, and of a last line without newline, if there is one.
-    pub fn filled(self, n: usize) -> Place
+    pub fn filled(self, n: usize) -> Reading
         ensures { λ r. ⌜ r ≡ filledOf self n ⌝ }
     {
         let over = n == 0;
-        Place {
+        Reading {
             at: 0,
             end: n,
             held: self.held,
@@ -45,10 +46,10 @@ impl Place {
     }
 
     // The line was answered, and the next begins.
-    pub fn answered(self) -> Place
+    pub fn answered(self) -> Reading
         ensures { λ r. ⌜ r ≡ answeredOf self ⌝ }
     {
-        Place {
+        Reading {
             at: self.at,
             end: self.end,
             held: 0,
@@ -101,26 +102,26 @@ fn append(bytes: &[u8], into: &mut [u8], n: usize) -> usize
     n + i
 }
 
-// The rest of a line, or what is here of it. A place that is not one in these bytes stays as it is.
-pub fn gather(input: &[u8], line: &mut [u8], place: Place) -> Place
-    ensures { λ r. ⌜ Gathers (now (input .entry)) place (now (line .entry)) r (now (line .exit)) ⌝ }
+// The rest of a line, or what is here of it. A reading that does not lie in these bytes stays as it is.
+pub fn gather(input: &[u8], line: &mut [u8], reading: Reading) -> Reading
+    ensures { λ r. ⌜ Gathers (now (input .entry)) reading (now (line .entry)) r (now (line .exit)) ⌝ }
 {
-    let at = place.at;
-    let end = place.end;
+    let at = reading.at;
+    let end = reading.end;
     if end < at {
-        return place;
+        return reading;
     }
     if input.len() < end {
-        return place;
+        return reading;
     }
     let bytes = &input[at..end];
     let n = line_length(bytes);
-    let held = append(&bytes[..n], line, place.held);
-    Place {
+    let held = append(&bytes[..n], line, reading.held);
+    Reading {
         at: at + n + 1,
         end,
         held,
         ended: n < bytes.len(),
-        over: place.over,
+        over: reading.over,
     }
 }

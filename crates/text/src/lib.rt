@@ -4,7 +4,7 @@ mod input;
 mod reply;
 mod text;
 
-pub use input::Place;
+pub use input::Reading;
 pub use input::front;
 pub use input::gather;
 pub use reply::refused;

@@ -6,13 +6,13 @@ use borrow.Author.Needs.{needs}
 use denote.Ref.{now}
 use native.Mathlib.Omega.{arith}
 use lib.ListN.{length, getD, drop}
-use Rattle.number.specs.Number.{readBehind, numberOf, valuesOf}
+use Rattle.number.specs.Number.{readBehind, readDecimal, valuesOf}
 use Rattle.number.proofs.Read.{number-none, number-some, read-below, read-above, read-on, read-much, read-end}
 use Rattle.number.proofs.decimal.Statement.{statement}
 use Rattle.number.proofs.decimal.Tie as tie
 
 abbrev Inv-loop : tie.InvT-loop
-Inv-loop word n₀ i₀ n i = (i ≤ length word) × (n ≤ 65535) × (numberOf word ≡ readBehind n (drop i word))
+Inv-loop word n₀ i₀ n i = (i ≤ length word) × (n ≤ 65535) × (readDecimal word ≡ readBehind n (drop i word))
 
 abbrev μ-loop : tie.MeasureT-loop
 μ-loop word n₀ i₀ n i = length word - i

@@ -24,7 +24,7 @@ use Rattle.image.specs.declared.record.Action.the-variants as code
 use Rattle.image.proofs.record.Action.{the-type}
 use Rattle.image.proofs.Accepted.{tells, hold-lower, key-legal, entry-is, entry-not, all-head, all-tail, named-step, named-none}
 use Rattle.layout.specs.Model.{Model, Idle, Begun, Decided, still, marked, withWaiting}
-use Rattle.layout.specs.Actions.{doAction, doActions, decided, chosen, begins, Now, verdict}
+use Rattle.layout.specs.Actions.{doAction, doActions, decided, chosen, begins, AtOnce, ruling}
 use Rattle.layout.specs.Packed.{holdOf, tapOf}
 use Rattle.layout.specs.Effects.{Effected}
 use Rattle.layout.specs.declared.notes.Way.{Way}
@@ -110,7 +110,7 @@ neither Hold = refl
 
 -- a hold-tap that a queued release decides at once
 begins-now : (way : Way) (h p : Action) (n : ℕ) (c : Coord) (f : Found) (l w : Model)
-    → marked (Begun c) (decided way h p n c f l) ≡ begins (Now way) c w (doAction p n c 0 f (withWaiting Idle l)) (doAction h n c 0 f (withWaiting Idle l))
+    → marked (Begun c) (decided way h p n c f l) ≡ begins (AtOnce way) c w (doAction p n c 0 f (withWaiting Idle l)) (doAction h n c 0 f (withWaiting Idle l))
 unfolding decided
 begins-now Tap h p n c f l w = refl
 begins-now Hold h p n c f l w = refl
@@ -270,7 +270,7 @@ do-action-returns-8 t c =
     effected-as (s .args .image .now) (s .args .setting .coord) (c .with-default .ensures (s .args .image .now) (s .args .setting .coord) _ (s .pre .1 .1)) (λ x q. rw (do-means t r (c .before .before .value2 .given .1) .is))
 
 do-action-returns-9 : (t : ℕ) → do-action-lts.Need-returns-9 (do-action-calls t) (do-action-at t) do-action.Post do-action-Inv-loop do-action-μ-loop
-unfolding doAction meaning verdict
+unfolding doAction meaning ruling
 do-action-returns-9 t c =
     let r = c .before .before .before .before .before .before .before in
     let s = r .before .before .before in
@@ -280,7 +280,7 @@ do-action-returns-9 t c =
     effected-as img k (effected-begun img k k (c .wait-on .ensures img k _ (s .pre .1 .1))) (λ x q. rw (c .before .less .ensures, c .before .before .enum-told4 .given .1, m .is))
 
 do-action-returns-10 : (t : ℕ) → do-action-lts.Need-returns-10 (do-action-calls t) (do-action-at t) do-action.Post do-action-Inv-loop do-action-μ-loop
-unfolding doAction meaning verdict
+unfolding doAction meaning ruling
 do-action-returns-10 t c =
     let r = c .before .before .before .before .before .before .before .before .before in
     let s = r .before .before .before in

@@ -2,14 +2,14 @@
 use Prim.Native.Nat.{ℕ, zero, suc}
 use mathlib.Core.Path.{_≡_, refl}
 use borrow.Author.Needs.{needs}
-use Rattle.layout.specs.Notes.{placed}
+use Rattle.layout.specs.Notes.{decisionAt}
 use Rattle.layout.specs.declared.notes.Decision.{Decision}
 use Rattle.layout.specs.declared.notes.Notes.{Notes}
 use Rattle.layout.proofs.notes.note_decision.Statement.{statement}
 use Rattle.layout.proofs.notes.note_decision.Tie as tie
 
 -- two are made, and there is no place for a third
-full : (k : ℕ) (d : Decision) (n : Notes) → (k ≡ 0 → ⊥) → (k ≡ 1 → ⊥) → n ≡ placed k d n
+full : (k : ℕ) (d : Decision) (n : Notes) → (k ≡ 0 → ⊥) → (k ≡ 1 → ⊥) → n ≡ decisionAt k d n
 full zero d n a b = absurd (a refl)
 full (suc zero) d n a b = absurd (b refl)
 full (suc (suc k)) d n a b = refl

@@ -7,7 +7,7 @@ use native.Mathlib.Numerals.{add-one}
 use native.Mathlib.Omega.{arith}
 use lib.ListN.{length, getD, length-set}
 use lib.Seq.{paste, paste-zero, paste-suc}
-use Rattle.text.proofs.Laws.{count-fits, count-past, appended-fits, appended-past}
+use Rattle.text.proofs.Laws.{held-fits, held-past, joined-fits, joined-past}
 use Rattle.text.proofs.input.append.Statement.{statement}
 use Rattle.text.proofs.input.append.Tie as tie
 
@@ -22,13 +22,13 @@ returns : tie.Need-returns Inv-loop μ-loop
 returns c =
     let a = c .before .args in
     let past : length (now (a .into)) < a .n + length (now (a .bytes)) = omega arith in
-    (sym (count-past _ _ _ past), sym (appended-past _ _ _ past))
+    (sym (held-past _ _ _ past), sym (joined-past _ _ _ past))
 
 returns-2 : tie.Need-returns-2 Inv-loop μ-loop
 returns-2 c =
     let a = c .before .before .args in
     let past : length (now (a .into)) < a .n + length (now (a .bytes)) = omega arith in
-    (sym (count-past _ _ _ past), sym (appended-past _ _ _ past))
+    (sym (held-past _ _ _ past), sym (joined-past _ _ _ past))
 
 loop-holds : tie.Need-loop-holds Inv-loop μ-loop
 loop-holds c =
@@ -52,7 +52,7 @@ returns-3 c =
     let a = at-loop .before .before .before .args in
     let inv = at-loop .loop .inv in
     let all : at-loop .loop .i ≡ length (now (a .bytes)) = omega (arith, inv .0, c .loop-test .left) in
-    (sym (count-fits _ _ _ (inv .1) ∙ ap (λ k. a .n + k) (sym all)), inv .3 ∙ ap (λ k. paste (now (a .into)) (a .n) (now (a .bytes)) k) all ∙ sym (appended-fits _ _ _ (inv .1)))
+    (sym (held-fits _ _ _ (inv .1) ∙ ap (λ k. a .n + k) (sym all)), inv .3 ∙ ap (λ k. paste (now (a .into)) (a .n) (now (a .bytes)) k) all ∙ sym (joined-fits _ _ _ (inv .1)))
 
 pub append-spec : {M : Type 1} → statement M
 append-spec =

@@ -10,8 +10,7 @@ use Rattle.image.specs.Table.{tableOf}
 use Rattle.layout.specs.Model.{Queued, still}
 use Rattle.layout.specs.Steps.{appended, overflow, releases, released, event}
 use Rattle.layout.specs.Packed.{listIn, waitingOf, queuedOf, modelOf, unpack, noStacked}
-use Rattle.layout.specs.Calls.{refusedAs}
-use Rattle.layout.specs.Inside.{Tidy, Lined, Ready}
+use Rattle.layout.specs.Inside.{Tidy, Lined, Ready, refusedAs}
 use Rattle.layout.specs.declared.active.Active.{Active}
 use Rattle.layout.specs.declared.queue.Queue.{Queue}
 use Rattle.layout.specs.declared.effect.Progress.{Progress}

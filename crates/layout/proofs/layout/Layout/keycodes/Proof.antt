@@ -4,7 +4,8 @@ use borrow.Author.Needs.{needs}
 use lib.ListN.{length, length-map}
 use Rattle.layout.specs.Model.{still}
 use Rattle.layout.specs.Packed.{listIn}
-use Rattle.layout.specs.Calls.{refusedAs, Reply}
+use Rattle.layout.specs.Calls.{Reply}
+use Rattle.layout.specs.Inside.{refusedAs}
 use Rattle.layout.specs.declared.effect.Progress.{Progress}
 use Rattle.layout.proofs.Moves.{did-nothing, finished}
 use Rattle.layout.proofs.Calls.{Opened, opened, call-refused, call-finished}

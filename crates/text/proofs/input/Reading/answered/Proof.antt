@@ -1,8 +1,8 @@
--- `text::Place::answered` meets its contract. Assumes nothing.
+-- `text::Reading::answered` meets its contract. Assumes nothing.
 use mathlib.Core.Path.{refl}
 use Rattle.text.specs.Input.{answeredOf}
-use Rattle.text.proofs.input.Place.answered.Statement.{statement}
-use Rattle.text.proofs.input.Place.answered.Tie as tie
+use Rattle.text.proofs.input.Reading.answered.Statement.{statement}
+use Rattle.text.proofs.input.Reading.answered.Tie as tie
 
 returns : tie.Need-returns
 unfolding answeredOf

@@ -1,7 +1,7 @@
--- `text::Place::filled` meets its contract. Assumes nothing.
+-- `text::Reading::filled` meets its contract. Assumes nothing.
 use Rattle.text.specs.Input.{filledOf}
-use Rattle.text.proofs.input.Place.filled.Statement.{statement}
-use Rattle.text.proofs.input.Place.filled.Tie as tie
+use Rattle.text.proofs.input.Reading.filled.Statement.{statement}
+use Rattle.text.proofs.input.Reading.filled.Tie as tie
 
 returns : tie.Need-returns
 unfolding filledOf
