@@ -2,7 +2,7 @@
 // Assumes nothing.
 ghost use mathlib.Core.Path.{_≡_};
 ghost use Prim.Native.Nat.{_+_, _*_, _<_, _≤_};
-ghost use lib.ListN.{length};
+ghost use lib.ListN.{getD, length};
 ghost use Rattle.image.specs.Words.{wordAt, shapeOf, recordsOf, entriesOf, recordsAt, listAt, fieldOf, entryOf};
 ghost use Rattle.image.specs.Sound.{Framed};
 
@@ -25,20 +25,27 @@ pub(crate) fn word(image: &[u8], at: usize) -> u16
     (image[at] as u16) + 256 * (image[at + 1] as u16)
 }
 
-// The word at any place, for the lookups, which know nothing of their image: a byte past its end is 0. A place has 64 bits here,
-// since an image that was not accepted names some that no `usize` of 32 bits holds.
+// The byte at a place, and 0 past the end. Places are of 64 bits here: an image that was not accepted names some that no
+// `usize` of 32 bits holds.
+fn byte_or_zero(image: &[u8], at: u64) -> u16
+    ensures { λ r. ⌜ (r ≡ getD (now (image .entry)) at 0) × (r < 256) ⌝ }
+{
+    if at < (image.len() as u64) {
+        let i = at as usize;
+        image[i] as u16
+    } else {
+        0
+    }
+}
+
+// The word at any place, for the lookups, which know nothing of their image.
 pub(crate) fn word_or_zero(image: &[u8], at: u64) -> u16
     ensures { λ r. ⌜ r ≡ wordAt (now (image .entry)) at ⌝ }
 {
-    let n = image.len();
-    if (n as u64) <= at {
+    if (image.len() as u64) <= at {
         return 0;
     }
-    let i = at as usize;
-    if n - i < 2 {
-        return image[i] as u16;
-    }
-    word(image, i)
+    byte_or_zero(image, at) + 256 * byte_or_zero(image, at + 1)
 }
 
 // The header, read once: the numbers are handed on from here.
