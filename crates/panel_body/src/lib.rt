@@ -1,6 +1,6 @@
 // The program `panel`: document 01, Bench cases. It reads the image from `table.img`, then lines from standard input, and
 // writes the report after each, `?` for a line that it cannot read, and for a refused image the refusal alone. What is done
-// with a line and written for it is promised (`answer`); of reading and writing nothing can be. Assumes nothing.
+// with a line and written for it is promised (`answer`); which bytes are read or written nothing can say. Assumes nothing.
 mod table;
 
 use console::advance;

@@ -1,5 +1,5 @@
-// What the programs that answer lines share: lines gathered from what was read, and an answer's text, by value. Reading is the
-// programs' own, since no contract can say what comes. Assumes nothing.
+// What the programs that answer lines share: lines gathered from what was read, and an answer's text, by value. Reading and
+// writing are console's. Assumes nothing.
 mod input;
 mod reply;
 mod text;
