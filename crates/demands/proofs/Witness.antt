@@ -26,7 +26,7 @@ use Rattle.layout.specs.Steps.{held, sum, current, pressed, release, act, into,
 use Rattle.layout.specs.declared.notes.Way.the-variants.{Tap}
 use Rattle.demands.specs.Runs.{Call, call, run, ticks, arrived}
 use Rattle.demands.specs.Words.{downAfter, AllReleased}
-use Rattle.demands.specs.Demand3.{boundOf, left, Demand3, OfFresh}
+use Rattle.demands.specs.Demand3.{boundOf, layoutLeft, Demand3, OfFresh}
 use Rattle.demands.specs.Public.{Lent, callsOf, ticksOn, lentAll, Roomy}
 use Rattle.layout.specs.Packed.{pack}
 use Rattle.demands.specs.Z.{zOf, lent}
@@ -91,7 +91,7 @@ calls-z ks n = calls-are (lentAll lent ks) (replicate n lent) ∙ rw (lent-calls
 bound-z : (t q : ℕ) (ks : List Call) → queuedAfter (tableOf (zOf t)) fresh ks ≡ q → boundOf (zOf t) fresh (lentAll lent ks) ≡ 2 * q + max 1 t
 bound-z t q ks e = rw (tied-z t (lentAll lent ks) (lent-roomy lent ks lent-room) .layout, lent-calls lent ks, e, z-longest t)
 
-left-z : (t : ℕ) (ks : List Call) (n : ℕ) → left (zOf t) fresh (lentAll lent ks) (replicate n lent) ≡ pack (drain (tableOf (zOf t)) fresh ks n .layout)
+left-z : (t : ℕ) (ks : List Call) (n : ℕ) → layoutLeft (zOf t) fresh (lentAll lent ks) (replicate n lent) ≡ pack (drain (tableOf (zOf t)) fresh ks n .layout)
 left-z t ks n = tied-drain t ks n .layout ∙ rw (calls-z ks n)
 
 pub bound-reached : BoundReached

@@ -33,13 +33,13 @@ use Rattle.demands.specs.Public.{Lent, callsOf, ticksOn, Roomy, reply, r
 abbrev pub ran : List ℕ → Model → List Lent → List (List ℕ) → List Reply
 ran image start calls bs = replies image (calls ++ ticksOn bs) (pack start)
 
-abbrev pub left : List ℕ → Model → List Lent → List (List ℕ) → Layout
-left image start calls bs = afterCalls image start (calls ++ ticksOn bs)
+abbrev pub layoutLeft : List ℕ → Model → List Lent → List (List ℕ) → Layout
+layoutLeft image start calls bs = afterCalls image start (calls ++ ticksOn bs)
 
 abbrev pub did : List ℕ → Model → List Lent → List (List ℕ) → List Mark
 did image start calls bs = marksOf image (calls ++ ticksOn bs) (pack start)
 
--- 2q + max(1, M): q events are queued afterCalls the calls, and M is the image's longest hold time
+-- 2q + max(1, M): q events are queued after the calls, and M is the image's longest hold time
 abbrev pub boundOf : List ℕ → Model → List Lent → ℕ
 boundOf image start calls = bound (queuedIn (afterCalls image start calls)) (timesOf image)
 
@@ -53,7 +53,7 @@ pub record Demand3 (image : List ℕ) (start : Model) (calls : List Lent) : Type
   -- no call is refused
   pub unrefused : (bs : List (List ℕ)) → Roomy (ticksOn bs) → NoneRefused (ran image start calls bs)
   -- within the bound the queue is empty and nothing waits, and so it stays
-  pub drained : (bs : List (List ℕ)) → Roomy (ticksOn bs) → boundOf image start calls ≤ length bs → AtRest (left image start calls bs)
+  pub drained : (bs : List (List ℕ)) → Roomy (ticksOn bs) → boundOf image start calls ≤ length bs → AtRest (layoutLeft image start calls bs)
   -- each event was acted on once, in order of arrival; and the answers name just these
   pub acted :
       (bs : List (List ℕ)) → Roomy (ticksOn bs) → boundOf image start calls ≤ length bs
@@ -72,7 +72,7 @@ pub record Demand3 (image : List ℕ) (start : Model) (calls : List Lent) : Type
   -- if every key's last event was a release, no state is left, and the report of the last answer's codes is eight zero bytes
   pub stateless :
       AllReleased (arrived (callsOf calls)) → (bs : List (List ℕ)) → Roomy (ticksOn bs) → boundOf image start calls ≤ length bs
-      → heldIn (left image start calls bs) ≡ 0
+      → heldIn (layoutLeft image start calls bs) ≡ 0
   pub zeros :
       AllReleased (arrived (callsOf calls)) → (bs : List (List ℕ)) → Roomy (ticksOn bs) → boundOf image start calls ≤ length bs
       → reportOf (lastCodes [] (ran image start calls bs)) ≡ replicate 8 0

@@ -46,7 +46,7 @@ unfoldable pub reply : List ℕ → Call → Layout → List ℕ → Reply
 reply image Tick layout buffer = tickReply image layout buffer
 reply image (Enter e) layout buffer = eventReply image e layout buffer
 
--- one call afterCalls the other
+-- one call after the other
 unfoldable pub replies : List ℕ → List Lent → Layout → List Reply
 replies image [] layout = []
 replies image (k ∷ ks) layout = let r = reply image (k .call) layout (k .buffer) in r ∷ replies image ks (r .layout)
@@ -74,7 +74,7 @@ unfoldable pub lastLayout : Layout → List Reply → Layout
 lastLayout layout [] = layout
 lastLayout layout (r ∷ rs) = lastLayout (r .layout) rs
 
--- the layout afterCalls calls on a start
+-- the layout after calls on a start
 abbrev pub afterCalls : List ℕ → Model → List Lent → Layout
 afterCalls image start calls = lastLayout (pack start) (replies image calls (pack start))
 

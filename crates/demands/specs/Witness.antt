@@ -16,7 +16,7 @@ use Rattle.demands.specs.Runs.{Call, Enter, arrived}
 use Rattle.demands.specs.Words.{AllReleased}
 use Rattle.demands.specs.Z.{zOf, lent}
 use Rattle.demands.specs.Public.{lentAll}
-use Rattle.demands.specs.Demand3.{left, did, boundOf, AtRest}
+use Rattle.demands.specs.Demand3.{layoutLeft, did, boundOf, AtRest}
 
 -- seventeen presses of (0,0)
 unfoldable pub seventeen : List Call
@@ -32,8 +32,8 @@ pub record Asked (image buffer : List ℕ) : Type 0 where
 pub record BoundReached : Type 0 where
   pub asked : Asked (zOf 1) lent
   pub most : boundOf (zOf 1) fresh (lentAll lent seventeen) ≡ 33
-  pub before : AtRest (left (zOf 1) fresh (lentAll lent seventeen) (replicate 32 lent)) → ⊥
-  pub at : AtRest (left (zOf 1) fresh (lentAll lent seventeen) (replicate 33 lent))
+  pub before : AtRest (layoutLeft (zOf 1) fresh (lentAll lent seventeen) (replicate 32 lent)) → ⊥
+  pub at : AtRest (layoutLeft (zOf 1) fresh (lentAll lent seventeen) (replicate 33 lent))
 
 -- a key pressed and released before any tick
 unfoldable pub tapped : List Call

@@ -1,4 +1,4 @@
--- What a text holds after more bytes were put behind it: what it contents, and they, as long as there is room. Assumes nothing.
+-- What a text holds after more bytes were put behind it: what it held, and they, as long as there is room. Assumes nothing.
 use Prim.Native.Nat.{ℕ, _+_, _<_, _≤_}
 use mathlib.Core.List.{List, [], _∷_, _++_, append-nil}
 use mathlib.Core.Path.{_≡_, sym, ap, _∙_}
