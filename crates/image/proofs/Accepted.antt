@@ -24,7 +24,7 @@ use lib.Dec.{eqb, leb, ltb, T}
 use Rattle.codes.specs.Codes.{legal as legalCode}
 use Rattle.refusal.specs.declared.Refusal.the-variants as refusal
 use Rattle.image.specs.Words.{wordAt, layersOf, rowsOf, columnsOf, recordsOf, entriesOf, shapeOf, cellsOf, sizeOf, cellOf, fieldOf, entryOf, entries}
-use Rattle.image.specs.Record.{recordOf, actionAt, codesIn, childrenIn, listEnd, cellPlace, isInside, cellAt, entryAt}
+use Rattle.image.specs.Record.{recordOf, actionAt, codesIn, childrenIn, listEnd, cellPlace, isInside, cellAt, entryAt, actionWords}
 use Rattle.image.specs.Tree.{Action, Actions, NoOp, Trans, KeyCode, MultipleKeyCodes, MultipleActions, Layer, DefaultLayer, HoldTap, end, _&_, named, meaning, tree, open?, someOpen, shutButLast, opensLast, weight, longest, longestOf}
 use Rattle.image.specs.Proper.{closed, closedAll, Times, holdable, proper, properAll}
 use Rattle.image.specs.Table.{tableOf, treeIn, longestBelow, timesOf}
@@ -45,6 +45,7 @@ use Rattle.refusal.specs.declared.Verdict.the-variants.{Fine, Refused}
 use Rattle.image.specs.declared.rules.Checked.the-variants.{Accepted}
 use Rattle.image.specs.declared.areas.Source.the-variants.{Operator, BuiltIn}
 use Rattle.refusal.proofs.Verdicts.{rule-fine, or-fine, fine-all}
+use Rattle.image.proofs.Said.{action-one}
 use Rattle.image.proofs.Tests.{not-or}
 use Rattle.image.proofs.HeaderRules.{framed, cell-kept}
 use Rattle.image.proofs.Entries.{all-at, two-of, below-byte}
@@ -99,9 +100,12 @@ past-meant : (img : List ℕ) (n : ℕ) → actionAt img n ≡ code.NoOp → Mea
 unfolding tree meaning listEnd codesIn childrenIn every
 past-meant img n e = record { is = rw e; listed = omega arith; codes = refl; lower = refl }
 
-pub tells : (img : List ℕ) (n : ℕ) {r x : Coded} → Sound img → r ≡ actionAt img n → r ≡ x → Meant img n x
-tells img n {r} {x} s e f = go (decLt n (recordsOf img))
+pub tells : (img : List ℕ) (n : ℕ) {r x : Coded} → Sound img → actionWords r ≡ actionWords (actionAt img n) → r ≡ x → Meant img n x
+tells img n {r} {x} s told f = go (decLt n (recordsOf img))
   where
+    e : r ≡ actionAt img n
+    e = action-one r (actionAt img n) told
+
     go : Dec (n < recordsOf img) → Meant img n x
     go (yes l) = meant img n (s .records n l) e f
     go (no g) =

@@ -5,7 +5,7 @@ use Prim.Native.Nat.{ℕ}
 use denote.Ref.{now}
 use Rattle.decides.specs.Decides.{Decides, DecidesAs}
 use Rattle.decides.proofs.Both.{both}
-use Rattle.image.proofs.Said.{said-one, source-one}
+use Rattle.image.proofs.Said.{said-one, source-one, action-one, cell-one, entry-one}
 use Rattle.image.proofs.record.cell_at as C
 use Rattle.image.proofs.record.action_at as A
 use Rattle.image.proofs.record.entry_at as E
@@ -16,13 +16,13 @@ use Rattle.image.proofs.areas.in_use as U
 use Rattle.image.proofs.areas.refusal_in_use as R
 
 pub cell-at : Decides C.ended (λ M. C.spec) (λ M. C.clauses)
-cell-at M 𝓤 H A m r = record { same = refl; free = λ κs a g. refl; only = λ κs a g g′ x x′ ws ws′. both 𝓤 _ _ _ (λ p q. (p ∙ sym q, refl)) }
+cell-at M 𝓤 H A m r = record { same = refl; free = λ κs a g. refl; only = λ κs a g g′ x x′ ws ws′. both 𝓤 _ _ _ (λ p q. (cell-one _ _ (p ∙ sym q), refl)) }
 
 pub action-at : Decides A.ended (λ M. A.spec) (λ M. A.clauses)
-action-at M 𝓤 H A m r = record { same = refl; free = λ κs a g. refl; only = λ κs a g g′ x x′ ws ws′. both 𝓤 _ _ _ (λ p q. (p ∙ sym q, refl)) }
+action-at M 𝓤 H A m r = record { same = refl; free = λ κs a g. refl; only = λ κs a g g′ x x′ ws ws′. both 𝓤 _ _ _ (λ p q. (action-one _ _ (p ∙ sym q), refl)) }
 
 pub entry-at : Decides E.ended (λ M. E.spec) (λ M. E.clauses)
-entry-at M 𝓤 H A m r = record { same = refl; free = λ κs a g. refl; only = λ κs a g g′ x x′ ws ws′. both 𝓤 _ _ _ (λ p q. (p ∙ sym q, refl)) }
+entry-at M 𝓤 H A m r = record { same = refl; free = λ κs a g. refl; only = λ κs a g g′ x x′ ws ws′. both 𝓤 _ _ _ (λ p q. (entry-one _ _ (p ∙ sym q), refl)) }
 
 pub check : Decides K.ended (λ M. K.spec) (λ M. K.clauses)
 check M 𝓤 H A m r = record { same = refl; free = λ κs a g. refl; only = λ κs a g g′ x x′ ws ws′. both 𝓤 _ _ _ (λ p q. (said-one _ _ (p ∙ sym q), refl)) }

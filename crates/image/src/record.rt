@@ -3,7 +3,7 @@
 use super::words::word_or_zero;
 ghost use mathlib.Core.Path.{_≡_};
 ghost use Prim.Native.Nat.{_+_, _*_, _<_};
-ghost use Rattle.image.specs.Record.{actionOf, actionAt, cellAt, entryAt};
+ghost use Rattle.image.specs.Record.{actionOf, actionAt, cellAt, entryAt, actionWords, cellValue, entryValue};
 
 // A record's words, by its kind: records are named by their numbers, entries by the first and their count.
 pub enum Action {
@@ -48,7 +48,7 @@ pub(crate) fn action_of(kind: u16, a: u16, b: u16, c: u16) -> Action
 // The record that a cell names. Nothing is asked of the image or of the place, so the place of the cell in the image can
 // pass 32 bits.
 pub fn cell_at(image: &[u8], layer: usize, row: usize, column: usize) -> Cell
-    ensures { λ r. ⌜ r ≡ cellAt (now (image .entry)) layer row column ⌝ }
+    ensures { λ r. ⌜ cellValue r ≡ cellValue (cellAt (now (image .entry)) layer row column) ⌝ }
 {
     let rows = word_or_zero(image, 4) as u64;
     let columns = word_or_zero(image, 6) as u64;
@@ -65,7 +65,7 @@ pub fn cell_at(image: &[u8], layer: usize, row: usize, column: usize) -> Cell
 
 // The action of record n. A record past the last is NoOp.
 pub fn action_at(image: &[u8], n: usize) -> Action
-    ensures { λ r. ⌜ r ≡ actionAt (now (image .entry)) n ⌝ }
+    ensures { λ r. ⌜ actionWords r ≡ actionWords (actionAt (now (image .entry)) n) ⌝ }
 {
     if (word_or_zero(image, 8) as usize) <= n {
         return Action::NoOp;
@@ -80,7 +80,7 @@ pub fn action_at(image: &[u8], n: usize) -> Action
 
 // An entry of the list.
 pub fn entry_at(image: &[u8], e: usize) -> Entry
-    ensures { λ r. ⌜ r ≡ entryAt (now (image .entry)) e ⌝ }
+    ensures { λ r. ⌜ entryValue r ≡ entryValue (entryAt (now (image .entry)) e) ⌝ }
 {
     if (word_or_zero(image, 10) as usize) <= e {
         return Entry::Outside;

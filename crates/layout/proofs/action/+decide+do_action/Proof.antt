@@ -22,6 +22,7 @@ use Rattle.image.specs.Sound.{Meant}
 use Rattle.image.specs.declared.record.Action.{Action as Coded}
 use Rattle.image.specs.declared.record.Action.the-variants as code
 use Rattle.image.proofs.record.Action.{the-type}
+use Rattle.image.proofs.Said.{entry-one}
 use Rattle.image.proofs.Accepted.{tells, hold-lower, key-legal, entry-is, entry-not, all-head, all-tail, named-step, named-none}
 use Rattle.layout.specs.Model.{Model, Idle, Begun, Decided, still, marked, withWaiting}
 use Rattle.layout.specs.Actions.{doAction, doActions, decided, chosen, begins, AtOnce, ruling}
@@ -185,7 +186,7 @@ unfolding listEnd
 do-action-returns t c =
     let b = c .before .before .before .before in
     let m = do-means t (b .before .before .before .before) (b .before .before .first2 .given .1) in
-    absurd (omega (arith, m .listed, entry-not _ _ (sym (c .before .before .entry-at .ensures) ∙ c .enum-told3 .given .1), b .loop .inv .0, c .before .before .before .loop-test .taken))
+    absurd (omega (arith, m .listed, entry-not _ _ (sym (entry-one _ _ (c .before .before .entry-at .ensures)) ∙ c .enum-told3 .given .1), b .loop .inv .0, c .before .before .before .loop-test .taken))
 
 do-action-do-action-requires : (t : ℕ) → do-action-lts.Need-do-action-requires (do-action-calls t) (do-action-at t) do-action.Post do-action-Inv-loop do-action-μ-loop
 do-action-do-action-requires t c κs =
@@ -193,7 +194,7 @@ do-action-do-action-requires t c κs =
     let b = e .before .before in
     let s = b .before .before .before .before .before .before .before in
     let img = s .args .image .now in
-    let h = entry-is img (b .loop .at) _ (sym (e .entry-at .ensures) ∙ c .before .before .k .given .1) in
+    let h = entry-is img (b .loop .at) _ (sym (entry-one _ _ (e .entry-at .ensures)) ∙ c .before .before .k .given .1) in
     let low = ltb-true _ (s .args .n) (all-head (λ k. ltb k (s .args .n)) img (b .loop .at) (b .loop .left) (e .before .loop-test .taken) (b .loop .inv .1)) in
     (omega (arith, low, h .1, s .pre .0), (s .pre .1 .0, b .loop .inv .2 .roomy))
 
@@ -205,7 +206,7 @@ do-action-loop-again t c =
     let s = b .before .before .before .before .before .before .before in
     let img = s .args .image .now in
     let some = e .before .loop-test .taken in
-    let h = entry-is img (b .loop .at) _ (sym (e .entry-at .ensures) ∙ c .before .before .before .k .given .1) in (
+    let h = entry-is img (b .loop .at) _ (sym (entry-one _ _ (e .entry-at .ensures)) ∙ c .before .before .before .k .given .1) in (
       omega (arith, b .loop .inv .0, some),
       all-tail (λ k. ltb k (s .args .n)) img (b .loop .at) (b .loop .left) some (b .loop .inv .1),
       left-step img (s .args .setting .coord) (rw (named-step (tree img) img (b .loop .at) (b .loop .left) some) at (b .loop .inv .2)) (c .do-action .ensures) (λ l. rw (h .1)),

@@ -9,6 +9,7 @@ use Rattle.event.specs.declared.Coord.{Coord}
 use Rattle.image.specs.Words.{entries}
 use Rattle.lists.specs.Lists.{every}
 use Rattle.layout.specs.Actions.{pushCodes}
+use Rattle.image.proofs.Said.{entry-one}
 use Rattle.image.proofs.Accepted.{entry-is, entry-not, entries-step, all-head, all-tail}
 use Rattle.layout.proofs.Effects.{Left, left-start, left-step, left-end}
 use Rattle.layout.proofs.action.push_codes.Statement.{statement}
@@ -30,7 +31,7 @@ loop-holds c =
 returns : tie.Need-returns Inv-loop μ-loop
 returns c =
     let b = c .before .before .before .before in
-    absurd (omega (arith, entry-not _ _ (sym (c .before .before .entry-at .ensures) ∙ c .enum-told .given .1)))
+    absurd (omega (arith, entry-not _ _ (sym (entry-one _ _ (c .before .before .entry-at .ensures)) ∙ c .enum-told .given .1)))
 
 loop-again : tie.Need-loop-again Inv-loop μ-loop
 unfolding pushCodes
@@ -39,7 +40,7 @@ loop-again c =
     let img = b .before .before .args .image .now in
     let inv = b .loop .inv in
     let some = c .before .before .before .before .before .before .loop-test .taken in
-    let h = entry-is img (b .loop .at) _ (sym (c .before .before .before .before .before .entry-at .ensures) ∙ c .before .before .before .code .given .1) in
+    let h = entry-is img (b .loop .at) _ (sym (entry-one _ _ (c .before .before .before .before .before .entry-at .ensures)) ∙ c .before .before .before .code .given .1) in
     let step = entries-step img (b .loop .at) (b .loop .left) some in (
       omega arith,
       all-tail legal img (b .loop .at) (b .loop .left) some (inv .1),
@@ -56,7 +57,7 @@ push-key-requires : tie.Need-push-key-requires Inv-loop μ-loop
 push-key-requires c κs =
     let b = c .before .before .before .before .before .before in
     let img = b .before .before .args .image .now in
-    let h = entry-is img (b .loop .at) _ (sym (c .before .before .before .before .entry-at .ensures) ∙ c .before .before .code .given .1) in
+    let h = entry-is img (b .loop .at) _ (sym (entry-one _ _ (c .before .before .before .before .entry-at .ensures)) ∙ c .before .before .code .given .1) in
     (b .loop .inv .2 (record { i = 0; j = 0 }) .roomy, ap legal (h .1) ∙ all-head legal img (b .loop .at) (b .loop .left) (c .before .before .before .before .before .loop-test .taken) (b .loop .inv .1))
 
 pub push-codes-spec : {M : Type 1} → statement M

@@ -15,7 +15,7 @@ returns-2 c =
     let w = c .before .before .before .before in
     let s = w .before .before .before in
     let img = s .args .image .now in
-    let m = tells img _ (s .pre) (c .before .action-at .ensures) refl in
+    let m = tells img _ {r = c .before .action-at .result} (s .pre) (c .before .action-at .ensures) refl in
     rw (w .waiting .given .1, m .is) (sym (no-wait img _ (tree img) _ _ (c .match2 .keys2)))
 
 returns-3 : tie.Need-returns-3

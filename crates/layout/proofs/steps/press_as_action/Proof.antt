@@ -7,11 +7,13 @@ use Rattle.layout.proofs.Presses.{press-outside, press-trans, press-own
 use Rattle.layout.specs.Packed.{modelOf}
 use denote.Enum.Declared.{tagOf}
 use types.Run.{OneOf, miss}
+use Rattle.image.specs.Record.{cellAt}
 use Rattle.image.specs.Table.{treeIn}
 use Rattle.image.specs.Tree.{Action, tree, meaning}
 use Rattle.image.specs.declared.record.Action.{Action as Coded}
 use Rattle.image.specs.declared.record.Action.the-variants as code
 use Rattle.image.proofs.record.Action.{the-type}
+use Rattle.image.proofs.Said.{cell-one}
 use Rattle.image.proofs.Accepted.{tells}
 use Rattle.layout.specs.Steps.{orDefault}
 use Rattle.layout.proofs.steps.press_as_action.Statement.{statement}
@@ -34,7 +36,7 @@ unfolding treeIn
 returns c =
     let at-cell = c .before .before in
     let s = at-cell .before .before .before .before .before in
-    λ q. press-outside (s .args .image .now) (s .args .coord) (modelOf (s .args .image .now) (s .args .active) q) _ _ (at-cell .before .current-layer .ensures) (at-cell .cell-at .ensures) (c .enum-told .given .1)
+    λ q. press-outside (s .args .image .now) (s .args .coord) (modelOf (s .args .image .now) (s .args .active) q) _ _ (at-cell .before .current-layer .ensures) (cell-one _ _ (at-cell .cell-at .ensures)) (c .enum-told .given .1)
 
 returns-2 : tie.Need-returns-2
 unfolding treeIn meaning
@@ -43,7 +45,8 @@ returns-2 c =
     let s = at-cell .before .before .before .before .before in
     let img = s .args .image .now in
     let m = tells img _ (s .pre .0) (c .before .before .before .action-at .ensures) (c .before .enum-told2 .given .1) in
-    λ q. ap (treeIn img) (c .cell-at2 .ensures) ∙ press-trans img (s .args .coord) (modelOf img (s .args .active) q) _ _ (at-cell .before .current-layer .ensures) (at-cell .cell-at .ensures) _ (c .before .before .before .before .before .n .given .1) (m .is)
+    let base : c .cell-at2 .result ≡ cellAt img (s .args .active .«default_layer») (s .args .coord .i) (s .args .coord .j) = cell-one _ _ (c .cell-at2 .ensures) in
+    λ q. ap (treeIn img) base ∙ press-trans img (s .args .coord) (modelOf img (s .args .active) q) _ _ (at-cell .before .current-layer .ensures) (cell-one _ _ (at-cell .cell-at .ensures)) _ (c .before .before .before .before .before .n .given .1) (m .is)
 
 returns-3 : tie.Need-returns-3
 unfolding treeIn
@@ -51,8 +54,8 @@ returns-3 c =
     let at-cell = c .before .before .before .before .before in
     let s = at-cell .before .before .before .before .before in
     let img = s .args .image .now in
-    let m = tells img _ (s .pre .0) (c .before .action-at .ensures) refl in
-    λ q. press-own img (s .args .coord) (modelOf img (s .args .active) q) _ _ (at-cell .before .current-layer .ensures) (at-cell .cell-at .ensures) _ (c .before .before .before .n .given .1) (rw (m .is) (not-trans img _ (tree img) _ _ (c .match2 .keys2)))
+    let m = tells img _ {r = c .before .action-at .result} (s .pre .0) (c .before .action-at .ensures) refl in
+    λ q. press-own img (s .args .coord) (modelOf img (s .args .active) q) _ _ (at-cell .before .current-layer .ensures) (cell-one _ _ (at-cell .cell-at .ensures)) _ (c .before .before .before .n .given .1) (rw (m .is) (not-trans img _ (tree img) _ _ (c .match2 .keys2)))
 
 pub press-as-action-spec : {M : Type 1} → statement M
 press-as-action-spec =
