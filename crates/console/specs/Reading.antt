@@ -1,5 +1,5 @@
--- One step of reading from standard input. Which bytes a read brings nothing can say; that a read is made only where all bytes
--- are taken, and what is done with any that it brings, is said here.
+-- One step of reading from standard input. Which bytes a read brings nothing can say; that the input stays as it is while bytes
+-- are left in it, and what is done with any that came, is said here.
 -- Assumes nothing.
 use Prim.Native.Nat.{ℕ, _≤_}
 use mathlib.Core.Path.{_≡_}
