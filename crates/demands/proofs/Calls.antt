@@ -22,12 +22,12 @@ use Rattle.image.specs.Table.{Table}
 use Rattle.layout.specs.Model.{Queued, Waiting, Idle, Waits, Model, Mark, Decided, ageOf, same, still, withWaiting, withQueue}
 use Rattle.layout.specs.Notes.{actedOn}
 use Rattle.layout.specs.Actions.{find, decided}
-use Rattle.layout.specs.Steps.{held, current, pressed, coordIn, release, act, into, intoHold, intoTap, releases, released, overflow, appended, entered, event, olderOne, older, tickWait, ticked, tick}
+use Rattle.layout.specs.Steps.{pressed, coordIn, release, act, into, intoHold, intoTap, releases, released, overflow, appended, entered, event, olderOne, older, tickWait, ticked, tick}
 use Rattle.layout.specs.declared.active.State.{State}
 use Rattle.layout.specs.declared.notes.Way.{Way}
 use Rattle.layout.specs.declared.notes.Way.the-variants.{Tap, Hold}
 use Rattle.layout.proofs.Noted.{acted-append}
-use Rattle.layout.proofs.Running.{Down, Kept, kept, ran, default-proper}
+use Rattle.layout.proofs.Running.{Down, Kept, kept, ran, pressed-proper}
 use Rattle.demands.specs.Runs.{Call, Tick, Enter, call, run, arrived}
 use Rattle.demands.specs.Words.{Leads, Nothing, Key, downBy, downAfter}
 use Rattle.demands.proofs.Cost.{cost, share, cost-less, share-whole}
@@ -164,11 +164,10 @@ goes-still w q f = record { order = q; leads = sym w; fit = f }
 
 module _ (t : Table) (m : Times) (ok : Proper t m) where
   pub acts : (e : Event) (age : ℕ) (h : Coord → Bool) (l : Model) → l .waiting ≡ Idle → Down h (l .states) → Acts m e age h l ((act t e age l) .layout) ((act t e age l) .marks)
-  unfolding act actedOn Leads pressed
+  unfolding act actedOn Leads
   acts (Press i j) age h l w d =
       let c : Coord = record { i = i; j = j } in
-      let now = current (l .base) (held (l .states)) in
-      let r = ran (pressed t c l) m (t .layers) c age (find c (l .queue)) l (default-proper (t .cell now i j) (t .cell (l .base) i j) m (ok .cells now i j) (ok .cells (l .base) i j)) w in
+      let r = ran (pressed t c l) m (t .layers) c age (find c (l .queue)) l (pressed-proper t m (ok .cells) c l) w in
       let g : Coord → Bool = λ x. cond (same c x) true (h x) in
       let gc : g c ≡ true = rw (same-refl c) in
       record {

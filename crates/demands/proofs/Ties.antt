@@ -24,14 +24,14 @@ use Rattle.layout.specs.Actions.{isRelease, find, AtOnce, ruling, begins, doAct
 use Rattle.layout.specs.Model.{Queued, Model, Waiting, Idle, Waits, Done, ageOf, same, still, withWaiting, withQueue}
 use Rattle.layout.specs.Packed.{waitingIn, pack}
 use Rattle.layout.specs.Notes.{decisions}
-use Rattle.layout.specs.Steps.{event, entered, released, olderOne, older, tick, ticked, into, act, pressed, current, held}
+use Rattle.layout.specs.Steps.{event, entered, released, olderOne, older, tick, ticked, into, act, pressed}
 use Rattle.layout.specs.Reach.{waitsIn}
 use Rattle.layout.specs.declared.queue.Found.the-variants.{None, At}
 use Rattle.layout.specs.declared.active.Waiting.the-variants as waiting
 use Rattle.layout.specs.declared.notes.Way.{Way}
 use Rattle.layout.specs.declared.notes.Way.the-variants.{Tap, Hold}
 use Rattle.layout.specs.declared.layout.Layout.{Layout}
-use Rattle.layout.proofs.Running.{kept, default-proper}
+use Rattle.layout.proofs.Running.{kept, pressed-proper}
 use Rattle.layout.proofs.Lawful.{Lawful}
 use Rattle.layout.proofs.Limits.{Calm, proper-cells, calm-held}
 use Rattle.layout.proofs.Reach.{reached-packed, unpack-pack}
@@ -49,11 +49,10 @@ less m = omega arith
 
 -- the hold and the tap of what a press runs are not open
 shut : (img : List ℕ) → Sound img → (l : Model) (c : Coord) (n t : ℕ) (hold tap : Action) → pressed (tableOf img) c l ≡ HoldTap n t hold tap → (closed hold ≡ true) × (closed tap ≡ true)
-unfolding pressed proper holdable
+unfolding proper holdable
 shut img s l c n t hold tap e =
-    let now = current (l .base) (held (l .states)) in
     let m = timesOf img in
-    let all = default-proper (tableOf img .cell now (c .i) (c .j)) (tableOf img .cell (l .base) (c .i) (c .j)) m (proper-cells img s now (c .i) (c .j)) (proper-cells img s (l .base) (c .i) (c .j)) in
+    let all = pressed-proper (tableOf img) m (proper-cells img s) c l in
     let r : proper (HoldTap n t hold tap) m ≡ true = sym (ap (λ (a : Action). proper a m) e) ∙ all in
     both-true (closed hold) (closed tap) (both-true (leb t (m .first)) (closed hold && closed tap) r .1)
 

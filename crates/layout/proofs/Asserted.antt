@@ -18,7 +18,7 @@ use Rattle.image.specs.Table.{Table, tableOf, timesOf}
 use Rattle.image.proofs.Accepted.{accepted}
 use Rattle.layout.specs.Model.{Queued, Model, Waiting, Idle, Waits, ageOf, withWaiting, withQueue}
 use Rattle.layout.specs.Actions.{isRelease, find, doAction, chosen, decided}
-use Rattle.layout.specs.Steps.{current, held, pressed, into, intoHold, appended, entered, older}
+use Rattle.layout.specs.Steps.{pressed, into, intoHold, appended, entered, older}
 use Rattle.layout.specs.Packed.{unpack}
 use Rattle.layout.specs.State.{falling}
 use Rattle.layout.specs.Reach.{waitsIn}
@@ -28,7 +28,7 @@ use Rattle.layout.specs.declared.notes.Way.the-variants.{Tap, Hold}
 use Rattle.layout.specs.declared.queue.Found.{Found}
 use Rattle.layout.specs.declared.queue.Found.the-variants.{None, At}
 use Rattle.layout.specs.declared.layout.Layout.{Layout}
-use Rattle.layout.proofs.Running.{kept, default-proper}
+use Rattle.layout.proofs.Running.{kept, pressed-proper}
 use Rattle.layout.proofs.Lawful.{falling-older, falling-new}
 use Rattle.layout.proofs.Reach.{good-lawful}
 use Rattle.layout.proofs.Limits.{Calm, spare, Weights, weighted, within-entered, proper-cells, calm-held}
@@ -93,12 +93,11 @@ module _ (P : Fact) (shut : (a : Action) → closed a ≡ true → (d : ℕ) (f 
 
   module _ (T : Table) (m : Times) (ok : (layer row column : ℕ) → proper (T .cell layer row column) m ≡ true) where
     act-so : (e : Event) (age : ℕ) (l : Model) → l .waiting ≡ Idle → Holds age (l .queue) → ActSo P T e age l
-    unfolding ActSo pressed Holds
+    unfolding ActSo Holds
     act-so (Release i j) age l e y = tt
     act-so (Press i j) age l e y =
         let c : Coord = record { i = i; j = j } in
-        let layer = current (l .base) (held (l .states)) in
-        proper-so (pressed T c l) m (T .layers) c age (find c (l .queue)) l (default-proper (T .cell layer i j) (T .cell (l .base) i j) m (ok layer i j) (ok (l .base) i j)) e (λ a k. y a c k)
+        proper-so (pressed T c l) m (T .layers) c age (find c (l .queue)) l (pressed-proper T m ok c l) e (λ a k. y a c k)
 
     chosen-so : (way : Way) (h p : Action) → closed h ≡ true → closed p ≡ true → closed (chosen way h p) ≡ true
     chosen-so Tap h p eh ep = ep

@@ -24,7 +24,7 @@ use Rattle.image.specs.Table.{Table, tableOf, timesOf}
 use Rattle.image.proofs.Accepted.{accepted, settles, open-closed, proper-table}
 use Rattle.layout.specs.Model.{Queued, Model, Waiting, Idle, Waits, Mark, Acted, Begun, Decided, Done, ageOf, still, after, withWaiting, withQueue}
 use Rattle.layout.specs.Actions.{find, decided}
-use Rattle.layout.specs.Steps.{current, held, pressed, act, into, intoHold, intoTap, releases, released, overflow, appended, entered, event, older, tickWait, ticked, tick}
+use Rattle.layout.specs.Steps.{pressed, act, into, intoHold, intoTap, releases, released, overflow, appended, entered, event, older, tickWait, ticked, tick}
 use Rattle.layout.specs.Packed.{waitingOf, holdOf, tapOf, unpack}
 use Rattle.layout.specs.Notes.{decisions, actedOn}
 use Rattle.layout.specs.Limits.{Limits, Limited, AtMost}
@@ -34,7 +34,7 @@ use Rattle.layout.specs.declared.notes.Way.the-variants.{Tap, Hold}
 use Rattle.layout.specs.declared.active.Waiting.{Waiting as WaitingIn}
 use Rattle.layout.specs.declared.active.Waiting.the-variants as waiting
 use Rattle.layout.specs.declared.layout.Layout.{Layout}
-use Rattle.layout.proofs.Running.{kept, Comes, nothing, begun, settled, ran, default-proper}
+use Rattle.layout.proofs.Running.{kept, Comes, nothing, begun, settled, ran, pressed-proper}
 
 -- a measure of what is done, where `spare` is what a hold-tap that waits may still come to: acting on an event comes to `most`
 -- at most, what it leaves waiting counted; and deciding what waits to its spare at most, and then nothing waits
@@ -139,12 +139,11 @@ comes-weighed w (settled way) = (tt, omega arith)
 
 module _ (T : Table) (m : Times) (ok : (layer row column : ℕ) → proper (T .cell layer row column) m ≡ true) (w : Weights) where
   act-weighed : (e : Event) (age : ℕ) (l : Model) → l .waiting ≡ Idle → let r = act T e age l in Calm (r .layout .waiting) × (weighed w (r .marks) + spare w (r .layout .waiting) ≤ w .acted + w .begun + w .decided)
-  unfolding act pressed weighed
+  unfolding act weighed
   act-weighed (Release i j) age l e = rw e (tt, omega arith)
   act-weighed (Press i j) age l e =
       let c : Coord = record { i = i; j = j } in
-      let now = current (l .base) (held (l .states)) in
-      let y = comes-weighed w (ran (pressed T c l) m (T .layers) c age (find c (l .queue)) l (default-proper (T .cell now i j) (T .cell (l .base) i j) m (ok now i j) (ok (l .base) i j)) e .comes) in
+      let y = comes-weighed w (ran (pressed T c l) m (T .layers) c age (find c (l .queue)) l (pressed-proper T m ok c l) e .comes) in
       (y .0, omega (arith, y .1))
 
   into-weighed : (way : Way) (x : Waiting) (l : Model) → l .waiting ≡ x → Calm x → let r = into way T x l in (weighed w (r .marks) ≤ spare w x) × (r .layout .waiting ≡ Idle)

@@ -17,9 +17,10 @@ use Rattle.lists.proofs.Laws.{both-true, every-append}
 use Rattle.event.specs.declared.Coord.{Coord}
 use Rattle.image.specs.Tree.{Action, Actions, NoOp, Trans, KeyCode, MultipleKeyCodes, MultipleActions, Layer, DefaultLayer, HoldTap, end, _&_}
 use Rattle.image.specs.Proper.{closed, closedAll, Times, holdable, isEnd, proper, properAll}
+use Rattle.image.specs.Table.{Table}
 use Rattle.layout.specs.Model.{Waiting, Idle, Waits, Model, Mark, Begun, Decided, Done, still, after, withBase, withWaiting}
 use Rattle.layout.specs.Actions.{push, pushCodes, Ruling, Undecided, AtOnce, ruling, begins, doAction, doActions}
-use Rattle.layout.specs.Steps.{coordIn, orDefault}
+use Rattle.layout.specs.Steps.{coordIn, current, held, orDefault, pressed}
 use Rattle.layout.specs.declared.active.State.{State}
 use Rattle.layout.specs.declared.active.State.the-variants.{NormalKey, LayerModifier}
 use Rattle.layout.specs.declared.notes.Way.{Way}
@@ -158,7 +159,7 @@ mutual
       (λ k ek. ran-all as′ m n c d f k (u .1) ek)
 
 -- what a press finds in an accepted table
-pub default-proper : (a b : Action) (m : Times) → proper a m ≡ true → proper b m ≡ true → proper (orDefault a b) m ≡ true
+default-proper : (a b : Action) (m : Times) → proper a m ≡ true → proper b m ≡ true → proper (orDefault a b) m ≡ true
 unfolding proper
 default-proper NoOp b m r s = refl
 default-proper Trans b m r s = s
@@ -168,3 +169,7 @@ default-proper (MultipleActions actions) b m r s = r
 default-proper (Layer v) b m r s = refl
 default-proper (DefaultLayer v) b m r s = refl
 default-proper (HoldTap i t h p) b m r s = r
+
+pub pressed-proper : (T : Table) (m : Times) → ((layer row column : ℕ) → proper (T .cell layer row column) m ≡ true) → (c : Coord) (l : Model) → proper (pressed T c l) m ≡ true
+unfolding pressed
+pressed-proper T m ok c l = default-proper _ _ m (ok (current (l .base) (held (l .states))) (c .i) (c .j)) (ok (l .base) (c .i) (c .j))
