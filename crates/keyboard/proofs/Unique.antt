@@ -1,4 +1,5 @@
--- Each public function's contract decides its whole answer, and a lent one's what the record is at exit. Assumes nothing.
+-- Each public function's contract decides its whole answer, and a lent one's what the record or the buffer is at exit.
+-- Assumes nothing.
 use mathlib.Core.Path.{refl, ap, _∙_, sym}
 use Rattle.decides.specs.Decides.{Decides}
 use Rattle.decides.proofs.Both.{both}
@@ -16,6 +17,10 @@ use Rattle.keyboard.proofs.lent.keyboard_get_report as L2
 use Rattle.keyboard.proofs.lent.keyboard_set_report as L3
 use Rattle.keyboard.proofs.lent.keyboard_set_idle as L4
 use Rattle.keyboard.proofs.lent.keyboard_clock as L5
+use Rattle.keyboard.proofs.linked.keyboard_new as E1
+use Rattle.keyboard.proofs.linked.keyboard_report_descriptor as E2
+use Rattle.keyboard.proofs.linked.keyboard_subclass as E3
+use Rattle.keyboard.proofs.linked.keyboard_protocol as E4
 use Rattle.keyboard.proofs.through.set_keyboard_report as T1
 use Rattle.keyboard.proofs.through.get_report as T2
 use Rattle.keyboard.proofs.through.set_report as T3
@@ -63,6 +68,18 @@ keyboard-set-idle M 𝓤 H A m r = record { same = refl; free = λ κs a g. refl
 
 pub keyboard-clock : Decides L5.ended (λ M. L5.spec) (λ M. L5.clauses)
 keyboard-clock M 𝓤 H A m r = record { same = refl; free = λ κs a g. refl; only = λ κs a g g′ x x′ ws ws′. both 𝓤 _ _ _ (λ p q. (p .0 ∙ sym (q .0), ap (λ w. (w, tt)) (p .1 ∙ sym (q .1)))) }
+
+pub keyboard-new : Decides E1.ended (λ M. E1.spec) (λ M. E1.clauses)
+keyboard-new M 𝓤 H A m r = record { same = refl; free = λ κs a g. refl; only = λ κs a g g′ x x′ ws ws′. both 𝓤 _ _ _ (λ p q. (p ∙ sym q, refl)) }
+
+pub keyboard-report-descriptor : Decides E2.ended (λ M. E2.spec) (λ M. E2.clauses)
+keyboard-report-descriptor M 𝓤 H A m r = record { same = refl; free = λ κs a g. refl; only = λ κs a g g′ x x′ ws ws′. both 𝓤 _ _ _ (λ p q. (p .0 ∙ sym (q .0), ap (λ w. (w, tt)) (p .1 ∙ sym (q .1)))) }
+
+pub keyboard-subclass : Decides E3.ended (λ M. E3.spec) (λ M. E3.clauses)
+keyboard-subclass M 𝓤 H A m r = record { same = refl; free = λ κs a g. refl; only = λ κs a g g′ x x′ ws ws′. both 𝓤 _ _ _ (λ p q. (p ∙ sym q, refl)) }
+
+pub keyboard-protocol : Decides E4.ended (λ M. E4.spec) (λ M. E4.clauses)
+keyboard-protocol M 𝓤 H A m r = record { same = refl; free = λ κs a g. refl; only = λ κs a g g′ x x′ ws ws′. both 𝓤 _ _ _ (λ p q. (p ∙ sym q, refl)) }
 
 pub through-set-keyboard-report : Decides T1.ended (λ M. T1.spec) (λ M. T1.clauses)
 through-set-keyboard-report M 𝓤 H A m r = record { same = refl; free = λ κs a g. refl; only = λ κs a g g′ x x′ ws ws′. both 𝓤 _ _ _ (λ p q. (p ∙ sym q, refl)) }
