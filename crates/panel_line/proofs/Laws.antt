@@ -9,14 +9,10 @@ use borrow.Author.Tests.{ne-eqb}
 use lib.Dec.{eqb}
 use lib.ListN.{length, getD, take, drop, length-drop, drop-of-length-le}
 use lib.Seq.{drop-cons, take-length}
-use Rattle.codes.specs.Report.{reportOf}
-use Rattle.text.specs.Text.{hexOf}
-use Rattle.text.specs.Reply.{refusedLine}
 use Rattle.number.specs.Number.{readDecimal, readWithin}
 use Rattle.number.specs.declared.Number.{Number}
 use Rattle.number.specs.declared.Number.the-variants.{Value, Unread}
 use Rattle.panel_line.specs.Line.{spaceAt, pair, coordsOf, pressAt, releaseAt, startsWith, lineOf}
-use Rattle.panel_line.specs.Print.{answerLine}
 use Rattle.panel_line.specs.declared.Coords.the-variants.{At, Nowhere}
 use Rattle.panel_line.specs.declared.Line.the-variants as line
 
@@ -99,12 +95,3 @@ module _ (l : List ℕ) (n : length l ≡ 1 → ⊥) where
   pub line-other : (getD l 0 0 ≡ 112 → ⊥) → (getD l 0 0 ≡ 114 → ⊥) → lineOf l ≡ line.Unread
   unfolding lineOf startsWith
   line-other p r = rw (ne-eqb (length l) 1 n, ne-eqb (getD l 0 0) 112 p, ne-eqb (getD l 0 0) 114 r)
-
--- the answer of a call, by its number
-pub answer-report : (number place : ℕ) (codes : List ℕ) → number ≡ 0 → answerLine number place codes ≡ hexOf (reportOf codes)
-unfolding answerLine
-answer-report number place codes e = rw e
-
-pub answer-refused : (number place : ℕ) (codes : List ℕ) → (number ≡ 0 → ⊥) → answerLine number place codes ≡ refusedLine number place
-unfolding answerLine
-answer-refused number place codes n = rw (ne-eqb number 0 n)

@@ -1,12 +1,9 @@
-// What a line of `panel` says, and what is printed for it: document 01, Bench cases. `t` is a tick; `p I J` is a press at row
-// I, column J, and `r I J` a release, I and J decimal numbers up to 255 of one to three digits, words parted by one space.
+// What a line of `panel` says: document 01, Bench cases. `t` is a tick; `p I J` is a press at row I, column J, and `r I J` a
+// release, I and J decimal numbers up to 255 of one to three digits, words parted by one space.
 // Assumes nothing.
-mod print;
-
 use event::Event;
 use number::Number;
 use number::decimal_within;
-pub use print::answer_line;
 ghost use mathlib.Core.Path.{_≡_};
 ghost use Prim.Native.Nat.{_≤_};
 ghost use lib.ListN.{length, getD};

@@ -4,12 +4,12 @@ use mathlib.Core.Path.{_≡_, sym, ap, _∙_}
 use denote.Ref.{now}
 use Rattle.panel_line.specs.Line.{lineOf}
 use Rattle.panel_line.proofs.Says.{says-one}
-use Rattle.panel_body.specs.Line.{printed, doneFor}
+use Rattle.panel_body.specs.Line.{doneFor}
 use Rattle.panel_body.proofs.answer.Statement.{statement}
 use Rattle.panel_body.proofs.answer.Tie as tie
 
 -- what the line says, as it was read
-said : (c : tie.After-read-line) → c .read-line .result ≡ lineOf (now (c .before .before .before .args .line))
+said : (c : tie.After-read-line) → c .read-line .result ≡ lineOf (now (c .before .before .before .before .before .args .line))
 said c = says-one _ _ (c .read-line .ensures)
 
 returns : tie.Need-returns
@@ -17,25 +17,26 @@ returns c =
     let called = c .before .before .before in
     let known = called .before .before .before in
     let read = known .before .before in
-    let a = read .before .before .before .args in
+    let a = read .before .before .before .before .before .args in
     let key = sym (said read) ∙ known .said .given .1 in
-    c .report-after .ensures ∙ ap printed (called .event .ensures) ∙ ap (doneFor (now (a .image)) (a .layout)) (sym key)
+    rw (c .report-after .ensures, called .event .ensures) (ap (doneFor (now (a .image)) (a .panel)) (sym key))
 
 returns-2 : tie.Need-returns-2
 returns-2 c =
     let called = c .before .before .before in
-    let known = called .before .before in
+    let clocked = called .before .before .before in
+    let known = clocked .before in
     let read = known .before .before in
-    let a = read .before .before .before .args in
+    let a = read .before .before .before .before .before .args in
     let tick = sym (said read) ∙ known .enum-told .given .1 in
-    c .report-after2 .ensures ∙ ap printed (called .tick .ensures) ∙ ap (doneFor (now (a .image)) (a .layout)) (sym tick)
+    rw (c .report-after2 .ensures, called .tick .ensures, clocked .clock .ensures) (ap (doneFor (now (a .image)) (a .panel)) (sym tick))
 
 returns-3 : tie.Need-returns-3
 returns-3 c =
     let read = c .before .before .before in
-    let a = read .before .before .before .args in
+    let a = read .before .before .before .before .before .args in
     let none = sym (said read) ∙ c .before .enum-told2 .given .1 in
-    rw (c .unread .ensures) (ap (doneFor (now (a .image)) (a .layout)) (sym none))
+    rw (c .unread .ensures) (ap (doneFor (now (a .image)) (a .panel)) (sym none))
 
 pub answer-spec : {M : Type 1} → statement M
 answer-spec =
@@ -48,6 +49,7 @@ answer-spec =
     (λ c. search needs)
     (λ c κs. search needs)
     (λ c. search needs)
+    (λ c κs. search needs)
     (λ c. search needs)
     (λ c κs. search needs)
     (λ c. search needs)
