@@ -65,5 +65,6 @@ END {
         print "tools/trace: " bad " wrong"
         exit 1
     }
-    printf "trace: %d rows, %d names in %d files, all there; all %d public functions; %d rows with a gap, %d not yet\n", rows, found, fileCount, functions, gaps, laters
+    printf "trace: %d rows, %d names in %d files, all there; ", rows, found, fileCount
+    printf "all %d public functions; %d rows with a gap, %d not yet\n", functions, gaps, laters
 }

@@ -1,6 +1,6 @@
 # What files define, and on which line; and what a piece of `code` in docs/TRACE.md names. tools/trace has the notation.
-# `citations` hands each name to `named(code, file, name, line)` of the program that includes this file: `file` is empty where
-# there is no such file, `line` is 0 where it has no such name, and `name` is empty where a file alone is named.
+# `citations` hands each name to `named(code, file, name, line)` of the program that uses this file: `file` is empty
+# where there is no such file, `line` is 0 where it has no such name, and `name` is empty where a file alone is named.
 #
 # Assumes: the working directory is the repository's root, and `home` is the crate of paths that name none.
 

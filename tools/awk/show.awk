@@ -1,5 +1,5 @@
-# One row of docs/TRACE.md, with names.awk: where its sentence stands in document 01, each column under its heading, and for
-# each name the file and the line. TRACE_ROW in the environment is the row that is asked for, `width` the width of a line.
+# One row of docs/TRACE.md, with names.awk: where its sentence stands in document 01, each column under its heading, and
+# for each name the file and the line. TRACE_ROW in the environment is what is asked for, `width` the width of a line.
 #
 # Assumes: a cell has no | of its own.
 
@@ -91,7 +91,7 @@ function hasPlace(row, wanted,    list, n, i) {
     return 0
 }
 
-# the section that a text names: the whole heading, or the only one that begins with it; nothing, or several with a newline
+# the section that a text names, by its whole heading or by how it begins; several with a newline, or nothing
 function sectionOf(text,    i, all) {
     text = tolower(text)
     for (i = 1; i <= sections; i++)
