@@ -1,4 +1,4 @@
-# Whether all that docs/TRACE.md names is there, with names.awk.
+# Whether all that docs/TRACE.md names is there, with names.awk; and the must-fail edits, with edits.awk.
 
 function say(text) {
     print FILENAME ":" FNR ": " text
@@ -56,6 +56,7 @@ function everyPublic(    list, path, key, at) {
 
 END {
     everyPublic()
+    edits = everyEdit()
     for (file in files) fileCount++
     if (!rows) {
         print FILENAME ": no rows"
@@ -66,5 +67,6 @@ END {
         exit 1
     }
     printf "trace: %d rows, %d names in %d files, all there; ", rows, found, fileCount
-    printf "all %d public functions; %d rows with a gap, %d not yet\n", functions, gaps, laters
+    printf "all %d public functions; %d rows with a gap, %d not yet; ", functions, gaps, laters
+    printf "%d edits, each of a kind\n", edits
 }
