@@ -101,15 +101,20 @@ fn call(count: &Count, [left, top]: [f64; 2], scale: f64) -> String {
         format!("{sum_said} (core {core_said}) : {rust_said}")
     };
     let behind = left + sum.max(rust) * scale + 6.0;
+    // no line of the scale runs through the numbers
+    let wide = 6.0 * said.chars().count() as f64;
+    out += &rect([behind - 3.0, top + 2.0, wide, 11.0], "#ffffff");
     out + &text([behind, top + 11.0], 10.0, "start", &said)
 }
 
-/// The image check of each table.
+/// The image check of each table, and below the last the axis: up to what is asked of any table.
 fn tables(counts: &Counts, [x, y]: [f64; 2]) -> String {
-    let scale = 300.0 / 750_000.0;
+    let scale = 300.0 / 1_000_000.0;
     let mut out = text([x, y - 16.0], 12.5, "start", "Image check, by table");
-    for (place, count) in counts.part("image").enumerate() {
-        let top = y + 8.0 + 44.0 * place as f64;
+    let mut bottom = y + 8.0;
+    for count in counts.part("image") {
+        let top = bottom;
+        bottom += 44.0;
         let instructions = count.image_check.unwrap_or(0.0);
         let lines = halves(&count.name);
         // the last line of the name stands on the bar
@@ -130,8 +135,7 @@ fn tables(counts: &Counts, [x, y]: [f64; 2]) -> String {
             &written(instructions),
         );
     }
-    let bottom = y + 8.0 + 44.0 * 7.0;
-    for count in [0.0, 150_000.0, 300_000.0, 450_000.0, 600_000.0, 750_000.0] {
+    for count in [0.0, 250_000.0, 500_000.0, 750_000.0, 1_000_000.0] {
         let at = x + count * scale;
         out += &line([at, bottom], [at, bottom + 4.0], "#555555");
         out += &text([at, bottom + 15.0], 10.0, "middle", &written(count));
@@ -270,23 +274,41 @@ fn panel([x, y]: [f64; 2], width: f64, title: &str, curves: &[Curve]) -> String 
     out + &curves_in(curves, place, [left, bottom + 28.0])
 }
 
-/// The lines of a panel with their points, and their names below it.
+/// Whether two lines lie so close that the later one hides the other.
+fn hides(one: &[[f64; 2]], other: &[[f64; 2]]) -> bool {
+    let close = |(a, b): (&[f64; 2], &[f64; 2])| (a[0] - b[0]).hypot(a[1] - b[1]) < 2.0;
+    one.len() == other.len() && one.iter().zip(other).all(close)
+}
+
+/// A line with its points.
+fn drawn(places: &[[f64; 2]], colour: &str, dashes: &str) -> String {
+    let pair = |[x, y]: &[f64; 2]| format!("{x:.1},{y:.1}");
+    let pairs: Vec<String> = places.iter().map(pair).collect();
+    let mut out = format!(
+        "<polyline points=\"{}\" fill=\"none\" stroke=\"{colour}\" stroke-width=\"2\"{dashes}/>\n",
+        pairs.join(" ")
+    );
+    for [x, y] in places {
+        out += &format!("<circle cx=\"{x:.1}\" cy=\"{y:.1}\" r=\"2.5\" fill=\"{colour}\"/>\n");
+    }
+    out
+}
+
+/// The lines of a panel, and their names below it. A line on top of another is dashed, so that both are seen.
 fn curves_in(curves: &[Curve], place: impl Fn([f64; 2]) -> [f64; 2], [x, y]: [f64; 2]) -> String {
     let mut out = String::new();
+    let mut before: Vec<Vec<[f64; 2]>> = Vec::new();
     for (row, curve) in curves.iter().enumerate() {
         let colour = curve.colour;
         let places: Vec<[f64; 2]> = curve.points.iter().map(|&point| place(point)).collect();
-        let pairs: Vec<String> = places
-            .iter()
-            .map(|[x, y]| format!("{x:.1},{y:.1}"))
-            .collect();
-        out += &format!(
-            "<polyline points=\"{}\" fill=\"none\" stroke=\"{colour}\" stroke-width=\"2\"/>\n",
-            pairs.join(" ")
-        );
-        for [x, y] in &places {
-            out += &format!("<circle cx=\"{x:.1}\" cy=\"{y:.1}\" r=\"2.5\" fill=\"{colour}\"/>\n");
-        }
+        let hides_one = before.iter().any(|other| hides(&places, other));
+        let dashes = if hides_one {
+            " stroke-dasharray=\"10 10\""
+        } else {
+            ""
+        };
+        out += &drawn(&places, colour, dashes);
+        before.push(places);
         let below = y + 12.0 * row as f64;
         out += &rect([x, below - 5.0, 12.0, 3.0], colour);
         let last = curve.points.last().map_or(0.0, |point| point[1]);
