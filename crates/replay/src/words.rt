@@ -1,5 +1,5 @@
 // The words of a script's line, parted by single spaces, and what they say: numbers, bytes in hex, a picture.
-// Everything is read strictly (docs/REPLAY.md). Assumes nothing.
+// Everything is read strictly (docs/LINES.md). Assumes nothing.
 use number::Number;
 use number::decimal_within;
 ghost use Prim.Native.Nat.{_≤_};
