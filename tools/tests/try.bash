@@ -1,0 +1,53 @@
+# What the scripts of this folder share, each of which sources it: a command is tried, and its exit status, standard output
+# and standard error are held to what they should be. The first that is not as it should be ends the script.
+#
+# Assumes: bash; the scripts stand in tools/tests.
+set -euo pipefail
+
+root=$(dirname "$(dirname "$(dirname "$(readlink -f -- "${BASH_SOURCE[0]}")")")")
+work=$(mktemp -d)
+trap 'rm -rf "$work"' EXIT
+tried=0
+left_out= # what could not be tried here, for the closing line
+
+# wrong WHAT: the last command that was tried is not as it should be.
+wrong() {
+    {
+        echo "${0##*/}: $name: $1"
+        echo "standard output:"
+        cat -v "$work/out"
+        echo "standard error:"
+        cat -v "$work/err"
+    } >&2
+    exit 1
+}
+
+# holds FILE TEXT: the file has this text, with a newline behind it; or nothing, where the text is empty.
+holds() {
+    cmp -s "$1" <(printf '%s' "${2:+$2$'\n'}")
+}
+
+# try NAME STATUS OUT ERR COMMAND..: standard input is the caller's.
+try() {
+    name=$1
+    local wanted=$2 out=$3 err=$4 status=0
+    shift 4
+    "$@" >"$work/out" 2>"$work/err" || status=$?
+    tried=$((tried + 1))
+    [[ $status == "$wanted" ]] || wrong "exit status $status, and not $wanted"
+    holds "$work/out" "$out" || wrong "standard output should be: $out"
+    holds "$work/err" "$err" || wrong "standard error should be: $err"
+}
+
+# also NAME COMMAND..: one thing more that must be so.
+also() {
+    name=$1
+    shift
+    tried=$((tried + 1))
+    "$@" || wrong "it is not so: $*"
+}
+
+# The closing line of a script.
+closing() {
+    echo "${0##*/}: $tried tried, each as it should be${left_out:+ (left out: $left_out)}"
+}
