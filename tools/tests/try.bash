@@ -7,6 +7,7 @@ set -euo pipefail
 root=$(dirname "$(dirname "$(dirname "$(readlink -f -- "${BASH_SOURCE[0]}")")")")
 work=$(mktemp -d)
 trap 'rm -rf "$work"' EXIT
+trap 'echo "${0##*/}: line $LINENO: a command of the test itself failed" >&2' ERR
 tried=0
 left_out= # what could not be tried here, for the closing line
 
