@@ -19,12 +19,12 @@ use Rattle.layout.specs.Model.{Model, Done}
 use Rattle.layout.specs.Steps.{event, tick, codes}
 use Rattle.layout.specs.Packed.{pack}
 use Rattle.layout.specs.Notes.{noNotes, noted}
-use Rattle.layout.specs.Calls.{Reply, replied, judgedOf, answerOf, layoutAfter, buffered}
+use Rattle.layout.specs.Calls.{Reply, codesTold, replied, judgedOf, answerOf, layoutAfter, buffered}
 use Rattle.layout.specs.Reach.{Starts}
 use Rattle.layout.proofs.Lawful.{Lawful, event-lawful, tick-lawful}
 use Rattle.layout.proofs.Reach.{lawful-good, unpack-pack, starts-lawful}
 use Rattle.demands.specs.Runs.{Call, Tick, Enter, call, run, ticks}
-use Rattle.demands.specs.Public.{Lent, callsOf, ticksOn, lentAll, Roomy, step, reply, replies, marksIf, marksOf, lastLayout, codesTold, lastCodes, NoneRefused}
+use Rattle.demands.specs.Public.{Lent, callsOf, ticksOn, lentAll, Roomy, step, reply, replies, marksIf, marksOf, lastLayout, lastCodes, NoneRefused}
 
 -- what a call that did so hands back
 abbrev given : Done → List ℕ → Reply

@@ -18,11 +18,11 @@ use Rattle.debounce.specs.declared.Debouncer.{Debouncer}
 use Rattle.layout.specs.Model.{fresh}
 use Rattle.layout.specs.Packed.{pack}
 use Rattle.layout.specs.Notes.{actedIn, madeIn}
-use Rattle.layout.specs.Calls.{Reply}
+use Rattle.layout.specs.Calls.{Reply, codesTold}
 use Rattle.layout.specs.declared.notes.Way.{Way}
 use Rattle.layout.specs.declared.notes.Way.the-variants.{Tap, Hold}
 use Rattle.demands.specs.Runs.{Call, Tick, Enter}
-use Rattle.demands.specs.Public.{lentAll, replies, codesTold}
+use Rattle.demands.specs.Public.{lentAll, replies}
 use Rattle.demands.specs.Z.{z, layered, twoKeys, lent}
 
 -- what goes in

@@ -8,7 +8,7 @@ use mathlib.Core.Path.{_≡_}
 use mathlib.Core.Bool.{true}
 use mathlib.Core.List.{List, [], _∷_, _++_, map}
 use lib.Dec.{eqb}
-use lib.ListN.{length, take}
+use lib.ListN.{length}
 use Rattle.lists.specs.Lists.{every}
 use Rattle.refusal.specs.declared.Verdict.{Verdict}
 use Rattle.refusal.specs.declared.Verdict.the-variants.{Fine, Refused}
@@ -16,7 +16,7 @@ use Rattle.image.specs.Table.{tableOf}
 use Rattle.layout.specs.Model.{Model, Mark, Done}
 use Rattle.layout.specs.Steps.{event, tick}
 use Rattle.layout.specs.Packed.{pack, unpack}
-use Rattle.layout.specs.Calls.{judgedOf, Reply, eventReply, tickReply}
+use Rattle.layout.specs.Calls.{judgedOf, Reply, codesTold, eventReply, tickReply}
 use Rattle.layout.specs.declared.notes.Notes.{Notes}
 use Rattle.layout.specs.declared.layout.Layout.{Layout}
 use Rattle.demands.specs.Runs.{Call, Tick, Enter}
@@ -77,10 +77,6 @@ lastLayout layout (r ∷ rs) = lastLayout (r .layout) rs
 -- the layout after calls on a start
 abbrev pub afterCalls : List ℕ → Model → List Lent → Layout
 afterCalls image start calls = lastLayout (pack start) (replies image calls (pack start))
-
--- the codes of an answer: the first bytes of the buffer, as many as the answer says
-abbrev pub codesTold : Reply → List ℕ
-codesTold r = take (r .told .codes) (r .buffer)
 
 -- the codes of the last answer; before any call, those that there are
 unfoldable pub lastCodes : List ℕ → List Reply → List ℕ

@@ -5,7 +5,7 @@
 use Prim.Native.Nat.{ℕ}
 use mathlib.Core.List.{List}
 use lib.Dec.{leb}
-use lib.ListN.{length}
+use lib.ListN.{length, take}
 use Rattle.lists.specs.Lists.{laid}
 use Rattle.refusal.specs.Number.{numberOf}
 use Rattle.refusal.specs.Verdict.{rule, orElse}
@@ -63,6 +63,10 @@ pub record Reply : Type 0 where
   pub told : Told
   pub layout : Layout
   pub buffer : List ℕ
+
+-- the codes of an answer: the first bytes of the buffer, as many as the answer says
+abbrev pub codesTold : Reply → List ℕ
+codesTold r = take (r .told .codes) (r .buffer)
 
 -- what the result of a call and its buffer at exit come to; of one that hands no layout on, the layout is the one it had
 abbrev pub handed : Answered → List ℕ → Reply

@@ -9,10 +9,10 @@ use Rattle.lists.proofs.Laws.{alike-is}
 use Rattle.codes.specs.declared.report.KbHidReport.{KbHidReport}
 use Rattle.keyboard.specs.Keyboard.{reported, fetched}
 use Rattle.keyboard.specs.declared.Keyboard.{Keyboard}
-use Rattle.layout.specs.Calls.{Reply}
+use Rattle.layout.specs.Calls.{Reply, codesTold}
 use Rattle.layout.specs.declared.layout.Layout.{Layout}
 use Rattle.text.specs.Text.{saying, hexOf}
-use Rattle.panel_body.specs.Line.{codesIn, reportShown, printed, answerLine, PrintsTheReport}
+use Rattle.panel_body.specs.Line.{reportShown, printed, answerLine, PrintsTheReport}
 
 -- the keyboard has the report that it was given, changed or not
 pub given-kept : (k : Keyboard) (report : KbHidReport) → reported k report .keyboard .report .bytes ≡ report .bytes
@@ -32,11 +32,11 @@ shown-kept : (layout : Layout) (k : Keyboard) (report : KbHidReport) → reportS
 unfolding reportShown fetched
 shown-kept layout k report = given-kept k report
 
-printed-text : (k : Keyboard) (reply : Reply) → printed k reply .text ≡ saying (answerLine (reply .told .number) (reply .told .place) (codesIn reply))
+printed-text : (k : Keyboard) (reply : Reply) → printed k reply .text ≡ saying (answerLine (reply .told .number) (reply .told .place) (codesTold reply))
 unfolding printed answerLine
 printed-text k reply = go (eqb (reply .told .number) 0) refl
   where
-    go : (t : Bool) → eqb (reply .told .number) 0 ≡ t → printed k reply .text ≡ saying (answerLine (reply .told .number) (reply .told .place) (codesIn reply))
+    go : (t : Bool) → eqb (reply .told .number) 0 ≡ t → printed k reply .text ≡ saying (answerLine (reply .told .number) (reply .told .place) (codesTold reply))
     go true e = rw e (shown-text (reply .layout) k _)
     go false e = rw e
 

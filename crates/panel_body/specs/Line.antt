@@ -6,7 +6,7 @@ use mathlib.Core.Bool.{cond}
 use mathlib.Core.List.{List}
 use mathlib.Core.Path.{_≡_}
 use lib.Dec.{eqb}
-use lib.ListN.{take, replicate}
+use lib.ListN.{replicate}
 use Rattle.codes.specs.Report.{reportOf}
 use Rattle.codes.specs.declared.report.KbHidReport.{KbHidReport}
 use Rattle.image.specs.Check.{toldOf}
@@ -16,7 +16,7 @@ use Rattle.keyboard.specs.Keyboard.{reported, fetched}
 use Rattle.keyboard.specs.Idle.{clocked}
 use Rattle.keyboard.specs.declared.Keyboard.{Keyboard}
 use Rattle.keyboard.specs.declared.Fetched.{Fetched}
-use Rattle.layout.specs.Calls.{Reply, eventReply, tickReply}
+use Rattle.layout.specs.Calls.{Reply, codesTold, eventReply, tickReply}
 use Rattle.layout.specs.declared.layout.Layout.{Layout}
 use Rattle.text.specs.Text.{saying, hexOf}
 use Rattle.text.specs.Reply.{unreadLine, refusedLine}
@@ -24,10 +24,6 @@ use Rattle.panel_line.specs.declared.Line.{Line}
 use Rattle.panel_line.specs.declared.Line.the-variants.{Key, Tick, Unread}
 use Rattle.panel_body.specs.declared.Panel.{Panel}
 use Rattle.panel_body.specs.declared.Done.{Done}
-
--- the codes that a call left in the buffer
-abbrev pub codesIn : Reply → List ℕ
-codesIn reply = take (reply .told .codes) (reply .buffer)
 
 -- a report is set, and what the keyboard answers to Get_Report, Input, is printed
 unfoldable pub reportShown : Layout → Keyboard → KbHidReport → Done
@@ -39,7 +35,7 @@ reportShown layout keyboard report =
 unfoldable pub printed : Keyboard → Reply → Done
 printed keyboard reply =
     cond (eqb (reply .told .number) 0)
-    (reportShown (reply .layout) keyboard (record { bytes = reportOf (codesIn reply) }))
+    (reportShown (reply .layout) keyboard (record { bytes = reportOf (codesTold reply) }))
     (record {
       panel = record { layout = reply .layout; keyboard = keyboard };
       text = saying (refusedLine (reply .told .number) (reply .told .place));
@@ -63,8 +59,8 @@ answerLine number place codes = cond (eqb number 0) (hexOf (reportOf codes)) (re
 
 -- whatever the keyboard held: that is what is printed; and where the call is accepted, the keyboard holds the report from then on
 pub record Prints (keyboard : Keyboard) (reply : Reply) : Type 0 where
-  pub prints : printed keyboard reply .text ≡ saying (answerLine (reply .told .number) (reply .told .place) (codesIn reply))
-  pub holds : reply .told .number ≡ 0 → printed keyboard reply .panel .keyboard .report .bytes ≡ reportOf (codesIn reply)
+  pub prints : printed keyboard reply .text ≡ saying (answerLine (reply .told .number) (reply .told .place) (codesTold reply))
+  pub holds : reply .told .number ≡ 0 → printed keyboard reply .panel .keyboard .report .bytes ≡ reportOf (codesTold reply)
 
 unfoldable pub PrintsTheReport : Type 0
 PrintsTheReport = (keyboard : Keyboard) (reply : Reply) → Prints keyboard reply
