@@ -7,6 +7,7 @@ mod both;
 mod codes;
 mod compare;
 mod debouncer;
+mod differences;
 mod drains;
 mod generate;
 mod guard;
@@ -33,6 +34,8 @@ usage: oracle replay                             answer the script on standard i
        oracle compare-names FILE..               hold the constants in these .rt files to the names
        oracle compare KIND N SEED -- COMMAND..   hold COMMAND's answers to the oracle's
        oracle drains N SEED                      drain N layouts and hold each to demand 3
+       oracle differences [-- COMMAND..]         run the entries of docs/DIFFERENCES.md on the Rust, and ask
+                                                 COMMAND, or the second opinion, for the port's answers
        oracle incident [TABLE LINES]             run the incident on the Rust, restart included, and the same
                                                  on a permitted table; or the calls of LINES on an image
        oracle incident-files FOLDER              write the incident's two tables and its lines to FOLDER
@@ -54,6 +57,10 @@ fn main() -> ExitCode {
         ["compare-names", files @ ..] if !files.is_empty() => return compare::names::run(files),
         ["compare", kind, n, seed, "--", command @ ..] if !command.is_empty() => {
             return run_compare(kind, n, seed, command)
+        }
+        ["differences"] => return differences::run(&[]),
+        ["differences", "--", command @ ..] if !command.is_empty() => {
+            return differences::run(command)
         }
         ["drains", n, seed] => return run_drains(n, seed),
         ["compare-panel", n, seed, "--", command @ ..] if !command.is_empty() => {
