@@ -205,8 +205,8 @@ mod tests {
         let document = std::fs::read_to_string(path).expect("the document");
         let rows = document.lines().filter_map(|line| line.strip_prefix("| `"));
         let named: Vec<&str> = rows.filter_map(|row| row.split('`').next()).collect();
-        let entries = entries();
-        let printed: Vec<&str> = entries.iter().map(|entry| entry.name).collect();
+        let outcomes = include_str!("outcomes.txt").lines();
+        let printed: Vec<&str> = outcomes.filter(|line| !line.starts_with(' ')).collect();
         assert_eq!(named, printed);
     }
 

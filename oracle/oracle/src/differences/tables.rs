@@ -34,7 +34,7 @@ fn of_table(name: &'static str, layers: Layers, calls: &[&str]) -> Entry {
     Entry::new(name, rust, vec![as_image(layers)])
 }
 
-/// A table of so many layers of one key row each: the first is given, of the others the last has the key code B.
+/// A table of so many layers: the first has these keys, the last as many with the code B, the others none.
 fn layered(first: &[Action], layers: usize) -> Layers {
     let empty: &'static [&'static [Action]] = &[];
     let mut all = vec![empty; layers];
