@@ -91,8 +91,16 @@ fn requests() -> Entry {
 }
 
 fn report_type() -> Entry {
-    let rust = vec![got(ReportType::Input), got(ReportType::Reserved(1))];
+    let keyboard = Keyboard::new(());
+    let (subclass, protocol) = (keyboard.subclass(), keyboard.protocol());
+    let numbers = [subclass as u8, protocol as u8];
+    let rust = vec![
+        got(ReportType::Input),
+        got(ReportType::Reserved(1)),
+        format!("subclass {subclass:?}, protocol {protocol:?}: as bytes {numbers:?}"),
+    ];
     Entry::new("report-type", rust, lines(&["get 1 0"]))
+        .noting("subclass and protocol answer the byte 1")
 }
 
 fn lights() -> Entry {
