@@ -6,10 +6,9 @@
 //! Assumes: the Rust's fields are private, so queue, wait and history are the paper's; its codes are held to the
 //! Rust's after every call. The report is the Rust's.
 
-use crate::codes;
+use crate::answers::codes;
+use crate::answers::layout::{codes_text, rust_codes};
 use crate::generate::drains::Case;
-use crate::guard;
-use crate::layout::{codes_text, rust_codes};
 use crate::paper::calls::Call;
 use crate::paper::image::{check, Parts};
 use crate::paper::layout::{Event, Layout, Mark, MOST_QUEUED};
@@ -17,6 +16,7 @@ use crate::paper::marks::{acted, pending};
 use crate::paper::times::longest;
 use crate::random::Random;
 use crate::table::Tabled;
+use crate::{guard, key_code};
 use std::collections::BTreeMap;
 use std::fmt;
 use std::process::ExitCode;
@@ -112,7 +112,7 @@ impl Run<'_> {
     fn check_released(&mut self) -> Result<(), String> {
         let report = self
             .rust
-            .answer(|layout| codes::report(&codes::bytes(layout.keycodes())));
+            .answer(|layout| codes::report(&key_code::bytes(layout.keycodes())));
         let states = &self.paper.states;
         match states.is_empty() && report == ZERO_REPORT {
             true => Ok(()),

@@ -3,25 +3,21 @@
 //!
 //! Assumes: it is built with overflow checks and with panics that unwind, as the workspace says.
 
-mod both;
-mod codes;
+mod answers;
 mod compare;
-mod debouncer;
 mod differences;
 mod drains;
 mod generate;
 mod guard;
 mod incident;
-mod keyboard;
-mod layout;
-mod panel;
+mod key_code;
 mod paper;
 mod random;
-mod replay;
 mod script;
 mod table;
 mod words;
 
+use answers::{panel, replay};
 use std::io::{self, Write};
 use std::process::ExitCode;
 
@@ -47,7 +43,7 @@ fn main() -> ExitCode {
     let done = match words.as_slice() {
         ["replay"] => replay::run(),
         ["panel", image] => panel::run(image),
-        ["names"] => print(codes::names().as_bytes()),
+        ["names"] => print(key_code::names().as_bytes()),
         ["generate", kind, count, seed] => print_script(kind, count, seed),
         ["incident"] => incident::both().and_then(|text| print(text.as_bytes())),
         ["incident-files", folder] => incident::write_files(folder),
@@ -118,7 +114,7 @@ fn run_drains(n: &str, seed: &str) -> ExitCode {
 
 fn run_compare_panel(n: &str, seed: &str, command: &[&str]) -> ExitCode {
     match (n.parse(), seed.parse()) {
-        (Ok(count), Ok(number)) => panel::compare(count, number, command),
+        (Ok(count), Ok(number)) => compare::panel::run(count, number, command),
         _ => usage(),
     }
 }

@@ -4,8 +4,8 @@
 //! code is legal. The Rust asks for references that last for ever; here the trees last as long as the layout
 //! that walks them and go with it, so that a script may bring any number of images.
 
-use crate::codes;
 use crate::guard::Guarded;
+use crate::key_code;
 use crate::paper::image::Parts;
 use keyberon::action::Action;
 use keyberon::key_code::KeyCode;
@@ -114,7 +114,7 @@ fn ragged(row: &[Action], number: usize) -> &[Action] {
 
 fn code(word: u16) -> KeyCode {
     let byte = u8::try_from(word).expect("an accepted image has legal codes");
-    codes::key_code(byte).expect("an accepted image has legal codes")
+    key_code::of_byte(byte).expect("an accepted image has legal codes")
 }
 
 #[cfg(test)]
@@ -133,9 +133,10 @@ mod tests {
             let (row, column) = (row as u8, column as u8);
             for event in [Event::Press(row, column), Event::Release(row, column)] {
                 answers.push(
-                    tabled.answer(|layout| format!("{:?}", codes::bytes(layout.event(event)))),
+                    tabled.answer(|layout| format!("{:?}", key_code::bytes(layout.event(event)))),
                 );
-                answers.push(tabled.answer(|layout| format!("{:?}", codes::bytes(layout.tick()))));
+                answers
+                    .push(tabled.answer(|layout| format!("{:?}", key_code::bytes(layout.tick()))));
             }
         }
         answers

@@ -5,6 +5,7 @@
 //! is the Rust's side.
 
 pub mod names;
+pub mod panel;
 mod shrink;
 mod side;
 

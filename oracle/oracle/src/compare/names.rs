@@ -3,7 +3,7 @@
 //! Assumes: the port's constants stand in `impl KeyCode {`, a line each, in the layout that its formatter
 //! gives them.
 
-use crate::codes;
+use crate::key_code;
 use std::collections::BTreeMap;
 use std::process::ExitCode;
 
@@ -21,7 +21,7 @@ pub fn run(files: &[&str]) -> ExitCode {
             }
         }
     }
-    match first_difference(&text, &codes::names()) {
+    match first_difference(&text, &key_code::names()) {
         None => {
             println!("compare: names: {WANTED} names and values, 0 differences");
             ExitCode::SUCCESS
@@ -113,14 +113,14 @@ mod tests {
     #[test]
     fn equal_names_have_no_difference() {
         assert_eq!(
-            first_difference(&text_of(&codes::names()), &codes::names()),
+            first_difference(&text_of(&key_code::names()), &key_code::names()),
             None
         );
     }
 
     #[test]
     fn missing_wrong_and_further_names_are_told() {
-        let names = codes::names();
+        let names = key_code::names();
         let told = |ours: &str| first_difference(&text_of(ours), &names).unwrap_or_default();
         assert!(told(&names.replace("LCtrl 0xE0\n", "")).starts_with("LCtrl, 0xE0 in the Rust"));
         assert!(told(&names.replace("LCtrl 0xE0", "LCtrl 0xE1")).starts_with("LCtrl is 0xE0"));

@@ -5,7 +5,7 @@
 //! newline are all differences. So is an answer on which the oracle itself is of two minds, even if the other
 //! side gives the same: it may be the oracle too.
 
-use crate::both::MARK;
+use crate::answers::both::MARK;
 use std::io::{self, Read, Write};
 use std::process::{Command, ExitStatus, Stdio};
 

@@ -173,7 +173,7 @@ fn answers(command: &[String], asked: &[Asked]) -> io::Result<Vec<String>> {
 #[cfg(test)]
 mod tests {
     use super::*;
-    use crate::replay;
+    use crate::answers::replay;
     use crate::script::Script;
 
     /// What the command prints, from the second opinion.

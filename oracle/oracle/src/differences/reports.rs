@@ -4,7 +4,7 @@
 
 use super::{lines, Asked, Entry};
 use crate::paper::image::Z;
-use crate::{codes, words};
+use crate::{key_code, words};
 use keyberon::action::{k, l};
 use keyberon::hid::{HidDevice, ReportType};
 use keyberon::key_code::{KbHidReport, KeyCode};
@@ -26,7 +26,7 @@ pub fn codes() -> Vec<Entry> {
     });
     let asked = ["codes e8", "codes f9", "codes fb"];
     let unheld = (0..=255)
-        .filter(|&byte| codes::key_code(byte).is_none())
+        .filter(|&byte| key_code::of_byte(byte).is_none())
         .count();
     vec![
         Entry::new("codes-reserved", named.to_vec(), lines(&asked)),
@@ -121,7 +121,7 @@ fn idle() -> Entry {
 
 pub fn one_side_alone() -> Vec<Entry> {
     let turned = Event::Press(1, 2).transform(|i, j| (j, i));
-    let codes = codes::bytes(k(KeyCode::A).key_codes());
+    let codes = key_code::bytes(k(KeyCode::A).key_codes());
     let layer = l(3).layer();
     let rust = format!("transform: {turned:?}; key_codes: {codes:?}; layer: {layer:?}");
     let areas = Asked {

@@ -4,7 +4,7 @@
 
 use super::trees::{as_image, hold_tap, kept, list, row, told};
 use super::{foretold, lines, Asked, Entry};
-use crate::codes::key_code;
+use crate::key_code::of_byte;
 use crate::paper::image::Z;
 use keyberon::action::Action;
 use keyberon::key_code::KeyCode;

@@ -4,7 +4,7 @@
 
 use super::Asked;
 use crate::guard::Guarded;
-use crate::{codes, words};
+use crate::{key_code, words};
 use keyberon::action::Action;
 use keyberon::key_code::KeyCode;
 use keyberon::layout::{Event, Layers, Layout};
@@ -68,7 +68,7 @@ pub fn run(layers: Layers, calls: &[Call]) -> Result<Vec<u8>, (usize, String)> {
                 None => drop(layout.tick()),
             }
         }
-        codes_after = codes::bytes(layout.keycodes());
+        codes_after = key_code::bytes(layout.keycodes());
         String::new()
     });
     match ran {

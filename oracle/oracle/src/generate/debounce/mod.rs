@@ -251,11 +251,11 @@ fn opening(pen: &mut Pen) -> Script {
 #[cfg(test)]
 mod tests {
     use super::*;
-    use crate::both::MARK;
+    use crate::answers::both::MARK;
+    use crate::answers::replay::answers;
     use crate::generate::{all, starting};
     use crate::paper::debounce::{BOUNCE, SCAN};
     use crate::paper::{ROOM, STATE};
-    use crate::replay::answers;
 
     const SCANS: usize = 60_000;
 

@@ -177,7 +177,7 @@ fn past_the_table() -> Case {
 #[cfg(test)]
 mod tests {
     use super::*;
-    use crate::replay::answers;
+    use crate::answers::replay::answers;
     use crate::script::Script;
 
     #[test]

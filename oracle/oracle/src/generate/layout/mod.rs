@@ -236,9 +236,9 @@ fn opening(pen: &mut Pen) -> Script {
 mod tests {
     use super::counts::Situation;
     use super::*;
-    use crate::both::MARK;
+    use crate::answers::both::MARK;
+    use crate::answers::replay::answers;
     use crate::generate::{all, starting};
-    use crate::replay::answers;
 
     const CALLS: usize = 60_000;
 

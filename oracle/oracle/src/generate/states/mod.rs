@@ -265,9 +265,9 @@ fn call(pen: &mut Pen) -> u8 {
 #[cfg(test)]
 mod tests {
     use super::*;
-    use crate::both::MARK;
+    use crate::answers::both::MARK;
+    use crate::answers::replay::answers;
     use crate::generate::all;
-    use crate::replay::answers;
 
     const N: usize = 60_000;
 

@@ -1,15 +1,13 @@
-//! `oracle panel`: what the port's program `panel` must print for an image and lines; and `oracle compare-panel`,
-//! which runs the two on random tables and traces, each in a folder with its `table.img`.
+//! `oracle compare-panel`: runs the port's program `panel` on random tables and traces, each in a folder with its
+//! `table.img`, and holds what it prints to what `oracle panel` does.
 //!
-//! Assumes: the answers of `replay` are right (the layout's lines are answered by the Rust and the paper side by
-//! side, the reports by the Rust), and the two programs read a line's words alike but for its length.
+//! Assumes: the command reads lines from standard input and `table.img` from the folder it is run in.
 
-use crate::generate;
-use crate::layout::Keys;
+use crate::answers::panel::answers;
 use crate::random::Random;
-use crate::{codes, guard, words};
+use crate::{generate, guard, words};
 use std::fs::{self, File};
-use std::io::{self, Read, Write};
+use std::io;
 use std::path::Path;
 use std::process::{Command, ExitCode, Stdio};
 
@@ -37,57 +35,6 @@ const ODD: [&[u8]; 16] = [
 struct Case {
     image: Vec<u8>,
     input: Vec<u8>,
-}
-
-/// What `panel` must print.
-pub fn answers(image: &[u8], input: &[u8]) -> String {
-    let mut keys = Keys::default();
-    let hex = words::to_hex(image);
-    let brought = keys
-        .answer(b"image", &[hex.as_bytes()])
-        .expect("hex is read");
-    if brought != "accepted" {
-        return brought + "\n";
-    }
-    let mut lines: Vec<&[u8]> = input.split(|&byte| byte == b'\n').collect();
-    if lines.last().is_some_and(|line| line.is_empty()) {
-        lines.pop(); // nothing is past the last newline
-    }
-    lines
-        .iter()
-        .map(|line| answer(&mut keys, line) + "\n")
-        .collect()
-}
-
-fn answer(keys: &mut Keys, line: &[u8]) -> String {
-    let told = match words::split(line).as_deref() {
-        Some([b"t"]) => keys.answer(b"t", &[]),
-        Some([way @ (b"p" | b"r"), i, j]) => keys.answer(way, &[i, j]),
-        _ => None,
-    };
-    told.map_or("?".to_string(), |told| report(&told))
-}
-
-/// The report of an answer's codes; an answer without codes as it is.
-fn report(told: &str) -> String {
-    let list = told
-        .strip_prefix("codes ")
-        .and_then(|rest| rest.split(' ').next());
-    match list.and_then(|list| words::hex(list.as_bytes())) {
-        Some(list) => codes::report(&list),
-        None => told.to_string(),
-    }
-}
-
-/// `oracle panel IMAGE`, lines from standard input.
-pub fn run(path: &str) -> io::Result<()> {
-    guard::silence();
-    let image = fs::read(path)?;
-    let mut input = Vec::new();
-    io::stdin().lock().read_to_end(&mut input)?;
-    io::stdout()
-        .lock()
-        .write_all(answers(&image, &input).as_bytes())
 }
 
 /// The cases of a kind of script: each image of it with the lines up to the next, odd ones among them.
@@ -169,7 +116,7 @@ fn compared(n: usize, seed: u64, command: &[&str], folder: &Path) -> io::Result<
 }
 
 /// `oracle compare-panel N SEED -- COMMAND..`
-pub fn compare(n: usize, seed: u64, command: &[&str]) -> ExitCode {
+pub fn run(n: usize, seed: u64, command: &[&str]) -> ExitCode {
     guard::silence();
     let folder = std::env::temp_dir().join(format!("compare-panel-{}", std::process::id()));
     let done = fs::create_dir_all(&folder).and_then(|()| compared(n, seed, command, &folder));
@@ -192,16 +139,6 @@ mod tests {
     use crate::paper::image::Z;
 
     #[test]
-    fn the_five_lines_of_document_01() {
-        let told = answers(&Z, b"p 0 0\nt\nt\nr 0 0\nt\n");
-        let none = "0000000000000000\n";
-        assert_eq!(
-            told,
-            [none, none, none, "00002c0000000000\n", none].concat()
-        );
-    }
-
-    #[test]
     fn odd_lines_change_nothing() {
         for line in ODD {
             assert_eq!(
@@ -210,14 +147,5 @@ mod tests {
             );
         }
         assert_eq!(answers(&Z, b""), "");
-    }
-
-    #[test]
-    fn a_refusal_stands_alone() {
-        assert_eq!(answers(&Z[..51], b"t\nt\n"), "refused 3 0\n");
-        assert_eq!(
-            answers(&[Z.to_vec(), vec![0; 9000]].concat(), b"t"),
-            "refused 3 0\n"
-        );
     }
 }

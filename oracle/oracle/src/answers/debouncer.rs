@@ -4,7 +4,8 @@
 //! debouncer that `debounce` made is the Rust's and the paper's, side by side; one that `debouncer` set is the
 //! paper's alone, since the Rust's fields are private.
 
-use crate::both::agreed;
+use super::both::agreed;
+use super::Adapter;
 use crate::guard::Guarded;
 use crate::paper::debounce::{laid, Debouncer as Paper, EVENT, PLACES};
 use crate::words;
@@ -30,8 +31,8 @@ impl Default for Bounces {
     }
 }
 
-impl Bounces {
-    pub fn answer(&mut self, command: &[u8], rest: &[&[u8]]) -> Option<String> {
+impl Adapter for Bounces {
+    fn answer(&mut self, command: &[u8], rest: &[&[u8]]) -> Option<String> {
         match (command, rest) {
             (b"debounce", [rows, columns, bounces, picture]) => {
                 let numbers = [rows, columns, bounces].map(|word| words::number(word));
@@ -55,7 +56,9 @@ impl Bounces {
             _ => None,
         }
     }
+}
 
+impl Bounces {
     /// Takes over a making; 0 or the refusal's number.
     fn make(&mut self, made: Result<Paper, u8>) -> u8 {
         let number = made.as_ref().err().copied().unwrap_or(0);
@@ -190,17 +193,8 @@ fn engine((rows, columns): (u16, u16), bounces: u16, picture: &[u8]) -> Option<B
 
 #[cfg(test)]
 mod tests {
+    use super::super::answers;
     use super::*;
-
-    /// The answers to lines, given one after the other.
-    fn answers(bounces: &mut Bounces, lines: &[&str]) -> Vec<String> {
-        let answer = |line: &&str| {
-            let words = words::split(line.as_bytes()).expect("a line of words");
-            let answer = bounces.answer(words[0], &words[1..]);
-            answer.unwrap_or_else(|| "?".to_string())
-        };
-        lines.iter().map(answer).collect()
-    }
 
     #[test]
     fn the_change_comes_at_scan_nb_bounce_plus_1() {

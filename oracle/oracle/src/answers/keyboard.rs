@@ -3,6 +3,7 @@
 //!
 //! Assumes: a fresh keyboard has a zero report, all LEDs off and idle rate 0.
 
+use super::Adapter;
 use crate::guard::Guarded;
 use crate::paper::idle::Idle;
 use crate::words;
@@ -62,8 +63,8 @@ impl Default for Board {
     }
 }
 
-impl Board {
-    pub fn answer(&mut self, command: &[u8], rest: &[&[u8]]) -> Option<String> {
+impl Adapter for Board {
+    fn answer(&mut self, command: &[u8], rest: &[&[u8]]) -> Option<String> {
         match (command, rest) {
             (b"report", [bytes]) => {
                 let bytes: [u8; 8] = words::hex(bytes)?.try_into().ok()?;
@@ -78,7 +79,9 @@ impl Board {
             _ => self.clock_answer(command, rest),
         }
     }
+}
 
+impl Board {
     /// The lines of the idle clock.
     fn clock_answer(&mut self, command: &[u8], rest: &[&[u8]]) -> Option<String> {
         match (command, rest) {
@@ -89,9 +92,8 @@ impl Board {
             }
             (b"idling", [rate, count]) => {
                 let (rate, count) = (words::byte(rate)?, words::number(count)?);
-                let line = [command, rest[0], rest[1]].join(&b' ');
                 self.idle = Idle { rate, count };
-                Some(String::from_utf8_lossy(&line).into_owned())
+                Some(words::line(command, rest))
             }
             (b"clock", [calls]) => {
                 let due = (0..words::number(calls)?)

@@ -5,12 +5,13 @@
 //! no images and tells codes alone. From an accepted image on the Rust runs beside the paper, which is held to
 //! its codes, until a line sets a part: the Rust's fields are private, so the paper goes on alone.
 
-use crate::both::agreed;
+use super::both::agreed;
+use super::Adapter;
 use crate::paper::calls::{Call, Given};
 use crate::paper::layout::{Coord, Event, Mark, Queued, State, Waiting, MOST_QUEUED, MOST_STATES};
 use crate::paper::state::Held;
 use crate::table::Tabled;
-use crate::{codes, words};
+use crate::{key_code, words};
 use keyberon::layout as rust;
 use std::fmt::Write;
 
@@ -21,8 +22,8 @@ pub struct Keys {
     rust: Option<Tabled>,
 }
 
-impl Keys {
-    pub fn answer(&mut self, command: &[u8], rest: &[&[u8]]) -> Option<String> {
+impl Adapter for Keys {
+    fn answer(&mut self, command: &[u8], rest: &[&[u8]]) -> Option<String> {
         let call = match (command, rest) {
             (b"image", [bytes]) => return Some(self.bring(&words::hex(bytes)?)),
             (b"room", [length]) => {
@@ -41,7 +42,9 @@ impl Keys {
         };
         Some(self.call(call))
     }
+}
 
+impl Keys {
     fn bring(&mut self, bytes: &[u8]) -> String {
         self.paper.bring(bytes);
         match &self.paper.image {
@@ -76,12 +79,14 @@ pub fn codes_text(codes: &[u8]) -> String {
 
 pub fn rust_codes(layout: &mut rust::Layout, call: Call) -> String {
     codes_text(&match call {
-        Call::Event(Event::Press((i, j))) => codes::bytes(layout.event(rust::Event::Press(i, j))),
-        Call::Event(Event::Release((i, j))) => {
-            codes::bytes(layout.event(rust::Event::Release(i, j)))
+        Call::Event(Event::Press((i, j))) => {
+            key_code::bytes(layout.event(rust::Event::Press(i, j)))
         }
-        Call::Tick => codes::bytes(layout.tick()),
-        Call::Keycodes => codes::bytes(layout.keycodes()),
+        Call::Event(Event::Release((i, j))) => {
+            key_code::bytes(layout.event(rust::Event::Release(i, j)))
+        }
+        Call::Tick => key_code::bytes(layout.tick()),
+        Call::Keycodes => key_code::bytes(layout.keycodes()),
     })
 }
 
@@ -187,20 +192,11 @@ fn below(word: &[u8], places: usize) -> Option<usize> {
 
 #[cfg(test)]
 mod tests {
+    use super::super::answers;
     use super::*;
     use crate::paper::image::Z;
 
     const NOTHING: &str = "codes - | acted - | decided -";
-
-    /// The answers to lines, given one after the other.
-    fn answers(keys: &mut Keys, lines: &[&str]) -> Vec<String> {
-        let answer = |line: &&str| {
-            let words = words::split(line.as_bytes()).expect("a line of words");
-            let answer = keys.answer(words[0], &words[1..]);
-            answer.unwrap_or_else(|| "?".to_string())
-        };
-        lines.iter().map(answer).collect()
-    }
 
     fn with_z() -> Keys {
         let mut keys = Keys::default();

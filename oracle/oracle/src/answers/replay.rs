@@ -3,15 +3,13 @@
 //! Assumes: nothing of the lines; one that cannot be read, or that the Rust has no counterpart of, is
 //! answered with `?` and changes nothing.
 
-use crate::debouncer::Bounces;
-use crate::keyboard::Board;
-use crate::layout::Keys;
+use super::debouncer::Bounces;
+use super::keyboard::Board;
+use super::layout::Keys;
+use super::{codes, Adapter, UNREADABLE};
 use crate::paper::areas;
-use crate::{codes, guard, words};
+use crate::{guard, words};
 use std::io::{self, BufRead, BufWriter, Write};
-
-/// The answer to a line that cannot be read.
-const UNREADABLE: &str = "?";
 
 /// Everything that lines change.
 #[derive(Default)]

@@ -1,16 +1,14 @@
-//! Key codes of the Rust: bytes as codes, their names, and the line `codes`.
+//! Key codes of the Rust: bytes as codes, codes as bytes, and their names.
 //!
 //! Assumes: document 01 gives the legal values, and the Rust's enum has a case for each of them and for no
 //! other (the test below looks at the names).
 
-use crate::guard::{caught, PANIC};
 use crate::paper::report;
-use crate::words;
-use keyberon::key_code::{KbHidReport, KeyCode};
+use keyberon::key_code::KeyCode;
 use std::fmt::Write;
 
 /// The code of a byte, if it is legal.
-pub fn key_code(byte: u8) -> Option<KeyCode> {
+pub fn of_byte(byte: u8) -> Option<KeyCode> {
     if !report::is_legal(byte.into()) {
         return None;
     }
@@ -23,22 +21,11 @@ pub fn bytes(codes: impl Iterator<Item = KeyCode>) -> Vec<u8> {
     codes.map(|code| code as u8).collect()
 }
 
-/// The report of a list of codes. The Rust answers if it can hold all of them; with an illegal one among
-/// them document 01's rules do.
-pub fn report(list: &[u8]) -> String {
-    let legal: Option<Vec<KeyCode>> = list.iter().map(|&byte| key_code(byte)).collect();
-    let Some(codes) = legal else {
-        return words::to_hex(&report::of(list));
-    };
-    let collect = || words::to_hex(codes.into_iter().collect::<KbHidReport>().as_bytes());
-    caught(collect).unwrap_or_else(|| PANIC.to_string())
-}
-
 /// Each legal code's name in the Rust and its value, a line each, in order of value.
 pub fn names() -> String {
     let mut text = String::new();
     for byte in 0..=255 {
-        if let Some(code) = key_code(byte) {
+        if let Some(code) = of_byte(byte) {
             writeln!(text, "{code:?} 0x{byte:02X}").expect("a string takes any text");
         }
     }
@@ -48,7 +35,6 @@ pub fn names() -> String {
 #[cfg(test)]
 mod tests {
     use super::*;
-    use crate::random::Random;
 
     #[test]
     fn there_are_193_distinct_names() {
@@ -60,14 +46,5 @@ mod tests {
         assert_eq!(text.lines().count(), 193);
         assert_eq!(names.len(), 193);
         assert!(names.contains("ExSel") && names.contains("MediaCalc"));
-    }
-
-    #[test]
-    fn the_paper_agrees_with_the_rust_on_legal_lists() {
-        let mut random = Random::new(1);
-        for _ in 0..20_000 {
-            let list = crate::generate::codes::legal_list(&mut random);
-            assert_eq!(report(&list), words::to_hex(&report::of(&list)), "{list:?}");
-        }
     }
 }
