@@ -99,7 +99,7 @@ fn run_compare(kind: &str, n: &str, seed: &str, command: &[&str]) -> ExitCode {
     let (Ok(count), Ok(number)) = (n.parse(), seed.parse()) else {
         return usage();
     };
-    match generate::kind(kind, count, number) {
+    match generate::scripts(kind, count, number) {
         Some(mut scripts) => compare::run(kind, number, scripts.as_mut(), command),
         None => usage(),
     }

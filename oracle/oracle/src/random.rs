@@ -27,6 +27,15 @@ impl Random {
         first + self.below(last - first + 1)
     }
 
+    /// A place from the first up to, not with, `end`; more often the first or the last.
+    pub fn place(&mut self, first: usize, end: usize) -> usize {
+        match self.below(4) {
+            0 => first,
+            1 => end - 1,
+            _ => self.among(first, end - 1),
+        }
+    }
+
     /// One of the items, of which there is at least one.
     pub fn pick<T: Copy>(&mut self, items: &[T]) -> T {
         items[self.below(items.len())]

@@ -17,6 +17,11 @@ impl Script {
         }
     }
 
+    /// The script, if it has lines.
+    pub fn if_any(self) -> Option<Self> {
+        (!self.lines.is_empty()).then_some(self)
+    }
+
     /// What is written to a program's standard input.
     pub fn bytes(&self) -> Vec<u8> {
         let mut bytes = self.lines.join(&b'\n');

@@ -11,31 +11,11 @@ mod side;
 
 use crate::generate::Kind;
 use crate::script::Script;
-use side::{Answers, Difference};
+use side::{Difference, Sides};
 use std::process::ExitCode;
 
 /// How many lines of a script are shown: a difference that needs more is not read by eye.
 const MOST_SHOWN: usize = 200;
-
-/// The two sides of a comparison.
-struct Sides {
-    ours: Vec<String>,
-    oracle: Vec<String>,
-}
-
-impl Sides {
-    /// The first difference between the two sides' answers to a script. Both run at the same time.
-    fn difference(&self, script: &Script, loud: bool) -> std::io::Result<Option<Difference>> {
-        let input = script.bytes();
-        let (ours, oracle) = std::thread::scope(|scope| {
-            let ours = scope.spawn(|| side::run(&self.ours, &input, loud));
-            let oracle = side::run(&self.oracle, &input, loud);
-            (ours.join().expect("a side's thread does not panic"), oracle)
-        });
-        let (ours, oracle): (Answers, Answers) = (ours?, oracle?);
-        Ok(side::first_difference(script.owed(), &ours, &oracle))
-    }
-}
 
 /// Runs all scripts; the exit code is 0 for no difference, 1 for one, 2 where a side could not be run.
 pub fn run(name: &str, seed: u64, scripts: &mut dyn Kind, command: &[&str]) -> ExitCode {

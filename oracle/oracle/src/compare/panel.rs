@@ -41,7 +41,7 @@ struct Case {
 fn cases(kind: &str, size: usize, seed: u64) -> Vec<Case> {
     let mut random = Random::new(seed);
     let mut found: Vec<Case> = Vec::new();
-    let mut scripts = generate::kind(kind, size, seed).expect("a kind of script");
+    let mut scripts = generate::scripts(kind, size, seed).expect("a kind of script");
     while let Some(script) = scripts.next() {
         for line in &script.lines {
             match line.strip_prefix(b"image ").and_then(words::hex) {

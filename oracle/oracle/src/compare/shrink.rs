@@ -4,7 +4,7 @@
 //! Assumes: any difference is as good as the first one. The time is limited: a script that could be still
 //! shorter is of more use than a long wait. Whoever wants the verdict alone gives it no time.
 
-use super::{side::Difference, Sides};
+use super::side::{Difference, Sides};
 use crate::script::Script;
 use crate::words;
 use std::io;

@@ -1,15 +1,16 @@
-//! One side of a comparison: a child process that is given a script and whose answers are kept whole, and
-//! the first difference between two sides' answers.
+//! The sides of a comparison: each a child process that is given a script and whose answers are kept whole; and the
+//! first difference between the two sides' answers.
 //!
 //! Assumes: nothing of the child; a wrong number of answers, a bad exit status and an answer without its
 //! newline are all differences. So is an answer on which the oracle itself is of two minds, even if the other
 //! side gives the same: it may be the oracle too.
 
 use crate::answers::both::MARK;
+use crate::script::Script;
 use std::io::{self, Read, Write};
 use std::process::{Command, ExitStatus, Stdio};
 
-pub struct Answers {
+struct Answers {
     bytes: Vec<u8>,
     status: ExitStatus,
 }
@@ -21,9 +22,28 @@ pub struct Difference {
     pub oracle: String,
 }
 
+/// The two sides of a comparison.
+pub struct Sides {
+    pub ours: Vec<String>,
+    pub oracle: Vec<String>,
+}
+
+impl Sides {
+    /// The first difference between the two sides' answers to a script. Both run at the same time.
+    pub fn difference(&self, script: &Script, loud: bool) -> io::Result<Option<Difference>> {
+        let input = script.bytes();
+        let (ours, oracle) = std::thread::scope(|scope| {
+            let ours = scope.spawn(|| run(&self.ours, &input, loud));
+            let oracle = run(&self.oracle, &input, loud);
+            (ours.join().expect("a side's thread does not panic"), oracle)
+        });
+        Ok(first_difference(script.owed(), &ours?, &oracle?))
+    }
+}
+
 /// Runs a command over an input. Its standard error is shown if `loud`. The input is written by a thread of
 /// its own, since a child that answers while it reads would otherwise wait for us and we for it.
-pub fn run(command: &[String], input: &[u8], loud: bool) -> io::Result<Answers> {
+fn run(command: &[String], input: &[u8], loud: bool) -> io::Result<Answers> {
     let said = if loud {
         Stdio::inherit()
     } else {
@@ -49,7 +69,7 @@ pub fn run(command: &[String], input: &[u8], loud: bool) -> io::Result<Answers> 
 }
 
 /// The first difference; `owed` is the number of answers that each side owes.
-pub fn first_difference(owed: usize, ours: &Answers, oracle: &Answers) -> Option<Difference> {
+fn first_difference(owed: usize, ours: &Answers, oracle: &Answers) -> Option<Difference> {
     let well = |side: &Answers| {
         let answers = side.bytes.iter().filter(|&&byte| byte == b'\n').count();
         side.status.success() && answers == owed && side.bytes.last().is_none_or(|&b| b == b'\n')

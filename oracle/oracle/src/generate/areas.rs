@@ -4,8 +4,10 @@
 //! Assumes: what an area is refused for is the paper's to say, for the closing line as for the answers.
 
 use super::grow::{accepted, Reach};
+use super::kind::Kind;
+use super::page::fill;
+use super::spoil;
 use super::tally::{Tally, OF_IMAGES};
-use super::{fill, spoil, Kind};
 use crate::paper::areas::{in_use, InUse};
 use crate::random::Random;
 use crate::script::Script;
@@ -171,7 +173,7 @@ fn cut(mut image: Vec<u8>, random: &mut Random) -> Vec<u8> {
 #[cfg(test)]
 mod tests {
     use super::*;
-    use crate::generate::all;
+    use crate::generate::kind::all;
     use crate::paper::areas::stretch;
     use crate::words::LONGEST;
     use std::collections::BTreeSet;

@@ -3,7 +3,7 @@
 //!
 //! Assumes: lists of more than 64 codes are not of interest, a layout has no more states.
 
-use super::Kind;
+use super::kind::Kind;
 use crate::paper::report::is_legal;
 use crate::random::Random;
 use crate::script::Script;

@@ -5,7 +5,8 @@
 
 use super::codes;
 use super::draft::*;
-use super::grow::{grow, timeout, word};
+use super::fields::{timeout, word};
+use super::grow::grow;
 use super::weights;
 use crate::random::Random;
 

@@ -5,6 +5,7 @@
 
 use super::codes::legal;
 use super::draft::*;
+use super::fields::{layer, timeout, word};
 use super::weights;
 use crate::paper::report::is_legal;
 use crate::random::Random;
@@ -109,29 +110,6 @@ pub fn grow(draft: &mut Draft, random: &mut Random, entries: usize) {
     };
 }
 
-/// A layer's number, in range or not.
-fn layer(random: &mut Random, layers: usize) -> u16 {
-    match random.below(8) {
-        0 => layers as u16,
-        1 => random.pick(&[8, 9, 255, 256, 32_768, 65_534, 65_535]),
-        2 => word(random),
-        _ => random.below(layers) as u16,
-    }
-}
-
-pub fn timeout(random: &mut Random) -> u16 {
-    match random.below(3) {
-        0 => random.pick(&[200, 255, 256, 65_534, 65_535]),
-        1 => word(random),
-        _ => random.among(0, 3) as u16,
-    }
-}
-
-/// Any word.
-pub fn word(random: &mut Random) -> u16 {
-    random.below(65_536) as u16
-}
-
 fn codes(draft: &mut Draft, random: &mut Random, room: usize) -> u16 {
     if random.once_in(2) {
         let (first, count) = old_stretch(draft, random);
@@ -142,13 +120,18 @@ fn codes(draft: &mut Draft, random: &mut Random, room: usize) -> u16 {
             return draft.push_old_codes(first, count);
         }
     }
-    let count = match random.below(8) {
+    let count = entry_count(random);
+    draft.push_codes(random, count.min(room))
+}
+
+/// How many entries a record is to have: few, mostly.
+fn entry_count(random: &mut Random) -> usize {
+    match random.below(8) {
         0 => 0,
         1 | 2 => 1,
         3 => random.among(2, HEAVIEST - 1),
         _ => random.among(2, 5),
-    };
-    draft.push_codes(random, count.min(room))
+    }
 }
 
 /// A stretch of the list as it stands, short enough for one record: so stretches overlap.
@@ -167,12 +150,7 @@ fn actions(draft: &mut Draft, random: &mut Random, room: usize) -> u16 {
             return draft.push_old_actions(first, count);
         }
     }
-    let count = match random.below(8) {
-        0 => 0,
-        1 | 2 => 1,
-        3 => random.among(2, HEAVIEST - 1),
-        _ => random.among(2, 5),
-    };
+    let count = entry_count(random);
     let named = named(draft, random, count.min(room));
     draft.push_actions(random, &named)
 }

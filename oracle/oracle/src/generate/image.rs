@@ -4,8 +4,10 @@
 //! Assumes: what an image is refused for is the paper's to say, for the closing line as for the answers.
 
 use super::grow::{accepted, Reach};
+use super::kind::Kind;
+use super::page::fill;
+use super::spoil;
 use super::tally::Tally;
-use super::{fill, spoil, Kind};
 use crate::paper::image::{check, Z};
 use crate::random::Random;
 use crate::script::Script;
@@ -206,7 +208,7 @@ fn pair(random: &mut Random) -> [u8; 2] {
 mod tests {
     use super::super::tally::OF_IMAGES;
     use super::*;
-    use crate::generate::all;
+    use crate::generate::kind::all;
 
     const IMAGES: usize = 50_000;
 

@@ -3,7 +3,7 @@
 //!
 //! Assumes: a keyboard is made once a script, so a script is long and starts from a fresh one.
 
-use super::Kind;
+use super::kind::Kind;
 use crate::random::Random;
 use crate::script::Script;
 use crate::words::to_hex;

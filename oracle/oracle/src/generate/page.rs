@@ -1,9 +1,11 @@
-//! The lines of a script while it is written.
+//! The lines of a script while it is written, and when there are enough of them.
 //!
 //! Assumes: no line holds a newline.
 
-use super::BYTES_A_SCRIPT;
 use crate::script::Script;
+
+/// How many bytes of long lines a script has, about.
+const BYTES_A_SCRIPT: usize = 20_000_000;
 
 #[derive(Default)]
 pub struct Page {
@@ -12,9 +14,10 @@ pub struct Page {
 }
 
 impl Page {
-    pub fn write(&mut self, line: &str) {
+    pub fn write(&mut self, line: impl Into<Vec<u8>>) {
+        let line = line.into();
         self.bytes += line.len();
-        self.lines.push(line.as_bytes().to_vec());
+        self.lines.push(line);
     }
 
     pub fn lines(&self) -> usize {
@@ -29,4 +32,14 @@ impl Page {
     pub fn script(&mut self) -> Script {
         Script::new(std::mem::take(self).lines)
     }
+}
+
+/// A script of the lines that are left, or of as many as fit; nothing if none are left.
+pub fn fill(left: &mut usize, mut make: impl FnMut() -> Vec<u8>) -> Option<Script> {
+    let mut page = Page::default();
+    while *left > 0 && !page.is_full() {
+        page.write(make());
+        *left -= 1;
+    }
+    page.script().if_any()
 }

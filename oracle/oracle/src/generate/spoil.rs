@@ -5,7 +5,8 @@
 
 use super::damage::{damage, damage_twice_in_one};
 use super::draft::*;
-use super::grow::{accepted, word, Reach};
+use super::fields::word;
+use super::grow::{accepted, Reach};
 use crate::paper::image::Z;
 use crate::random::Random;
 

@@ -5,7 +5,7 @@
 //! and with 65 only the last one is too heavy.
 
 use super::draft::{Draft, NOOP};
-use super::grow::timeout;
+use super::fields::timeout;
 use crate::random::Random;
 
 /// Adds records, the last of them with this weight.

@@ -5,7 +5,7 @@
 //! Assumes: a cause is what is aimed at; whether the state is illegal in truth is counted by the pen.
 
 use super::pen::{Pen, FULL_SPACE};
-use super::{refusals, steps};
+use super::{pictures, refusals};
 use crate::paper::debounce::{laid, Debouncer, EVENT, PLACES};
 use crate::random::Random;
 
@@ -69,10 +69,10 @@ pub fn legal(random: &mut Random, shape: (u16, u16)) -> Debouncer {
         2 => nb_bounce.saturating_sub(1),
         _ => nb_bounce,
     };
-    let accepted = steps::any(random, usize::from(rows * columns));
+    let accepted = pictures::any(random, usize::from(rows * columns));
     let candidate = match random.below(4) {
         0 => accepted.clone(),
-        _ => steps::changed(random, &accepted),
+        _ => pictures::changed(random, &accepted),
     };
     Debouncer {
         rows,
@@ -123,7 +123,7 @@ pub fn spoil(debouncer: &mut Debouncer, random: &mut Random, cause: Cause) {
 fn wrong_place(debouncer: &mut Debouncer, random: &mut Random, unused: bool) -> (usize, u8) {
     if !unused {
         let switches = debouncer.switches().clamp(1, PLACES);
-        return (some_place(random, 0, switches), random.among(2, 9) as u8);
+        return (random.place(0, switches), random.among(2, 9) as u8);
     }
     if debouncer.switches() >= PLACES {
         (debouncer.rows, debouncer.columns) = (random.among(1, 7) as u16, 16);
@@ -131,33 +131,24 @@ fn wrong_place(debouncer: &mut Debouncer, random: &mut Random, unused: bool) -> 
         debouncer.accepted[used..].fill(0);
         debouncer.candidate[used..].fill(0);
     }
-    let at = some_place(random, debouncer.switches(), PLACES);
+    let at = random.place(debouncer.switches(), PLACES);
     (at, random.pick(&[1, 1, 2, 9]))
-}
-
-/// A place of a stretch, more often its first or last.
-fn some_place(random: &mut Random, first: usize, end: usize) -> usize {
-    match random.below(4) {
-        0 => first,
-        1 => end - 1,
-        _ => random.among(first, end - 1),
-    }
 }
 
 /// A call with a good scan or a bad one, with room or without.
 fn call(pen: &mut Pen) {
-    let switches = pen.debouncer.switches().min(PLACES);
+    let switches = pen.beside.debouncer.switches().min(PLACES);
     let scan = match pen.random.below(5) {
         0 => refusals::scan(pen),
-        1 => pen.debouncer.accepted[..switches].to_vec(),
-        2 => steps::any(&mut pen.random, switches),
-        _ => pen.debouncer.candidate[..switches].to_vec(),
+        1 => pen.beside.debouncer.accepted[..switches].to_vec(),
+        2 => pictures::any(&mut pen.random, switches),
+        _ => pen.beside.debouncer.candidate[..switches].to_vec(),
     };
     match pen.random.below(8) {
         0 => pen.picture(),
         1 | 2 => pen.update(&scan),
         3 => {
-            let room = EVENT * pen.debouncer.switches();
+            let room = EVENT * pen.beside.debouncer.switches();
             let room = pen.random.pick(&[0, room.saturating_sub(1), room]);
             pen.space(room.min(65_535));
             pen.scan(&scan);

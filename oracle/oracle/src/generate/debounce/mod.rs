@@ -5,10 +5,11 @@
 
 mod made_up;
 mod pen;
+mod pictures;
 mod refusals;
 mod steps;
 
-use super::Kind;
+use super::kind::Kind;
 use crate::random::Random;
 use crate::script::Script;
 use crate::words::LONGEST;
@@ -114,8 +115,7 @@ impl Scans {
             run(&mut self.pen, self.runs, 40);
             self.runs += 1;
         }
-        let script = self.pen.script();
-        (!script.lines.is_empty()).then_some(script)
+        self.pen.script().if_any()
     }
 }
 
@@ -172,9 +172,7 @@ pub fn sample(count: usize, seed: u64) -> Script {
         run(&mut pen, 7 * runs, 6);
         runs += 1;
     }
-    let mut script = pen.script();
-    script.lines.truncate(count);
-    script
+    pen.sample(count)
 }
 
 /// The shape of a run: of two runs one goes through all shapes in turn, the other is on a small one.
@@ -197,7 +195,7 @@ fn run(pen: &mut Pen, at: usize, scans: usize) {
         refusals::making(pen, shape);
     }
     let nb_bounce = nb_bounce(&mut pen.random);
-    let start = steps::any(&mut pen.random, usize::from(shape.0 * shape.1));
+    let start = pictures::any(&mut pen.random, usize::from(shape.0 * shape.1));
     pen.make(shape, nb_bounce, &start);
     let scans = pen.random.among(scans / 2, scans + scans / 2);
     steps::run(pen, scans);
@@ -228,21 +226,21 @@ fn long_run(pen: &mut Pen, shape: (u16, u16)) -> Script {
 /// not closed.
 fn opening(pen: &mut Pen) -> Script {
     for text in BENCH {
-        pen.plain(text);
+        pen.write(text);
     }
     for text in MISWRITTEN {
-        pen.unreadable(text.to_string());
-        pen.plain("scan 1");
-        pen.plain("scan 0");
+        pen.unreadable(text);
+        pen.write("scan 1");
+        pen.write("scan 0");
     }
     let full = "1".repeat(128);
-    pen.plain(&format!("debouncer 8 16 5 5 {full} {full}"));
-    pen.unreadable(format!("debouncer 8 16 5 5 {full}0 {full}"));
-    pen.unreadable(format!("debouncer 8 16 5 5 {full} {full}1"));
-    pen.plain("picture");
-    pen.plain(&format!("scan {}", "0".repeat(LONGEST - "scan ".len())));
-    pen.unreadable(format!("scan {}", "0".repeat(LONGEST - "scan ".len() + 1)));
-    pen.plain("picture");
+    pen.write(&format!("debouncer 8 16 5 5 {full} {full}"));
+    pen.unreadable(&format!("debouncer 8 16 5 5 {full}0 {full}"));
+    pen.unreadable(&format!("debouncer 8 16 5 5 {full} {full}1"));
+    pen.write("picture");
+    pen.write(&format!("scan {}", "0".repeat(LONGEST - "scan ".len())));
+    pen.unreadable(&format!("scan {}", "0".repeat(LONGEST - "scan ".len() + 1)));
+    pen.write("picture");
     let mut script = pen.script();
     script.closed = false;
     script
@@ -253,7 +251,7 @@ mod tests {
     use super::*;
     use crate::answers::both::MARK;
     use crate::answers::replay::answers;
-    use crate::generate::{all, starting};
+    use crate::generate::kind::{all, starting};
     use crate::paper::debounce::{BOUNCE, SCAN};
     use crate::paper::{ROOM, STATE};
 

@@ -5,7 +5,7 @@
 //! right for one shape).
 
 use super::pen::{Pen, FULL_SPACE};
-use super::steps;
+use super::pictures;
 use crate::paper::debounce::EVENT;
 use crate::random::Random;
 
@@ -27,7 +27,7 @@ fn bad_scan(pen: &mut Pen) {
 
 /// Scans, right and wrong ones, over a buffer that has just enough room, or too little.
 fn cramped(pen: &mut Pen) {
-    let needed = EVENT * pen.debouncer.switches();
+    let needed = EVENT * pen.beside.debouncer.switches();
     let room = match pen.random.below(6) {
         0 => 0,
         1 => needed,
@@ -36,7 +36,7 @@ fn cramped(pen: &mut Pen) {
         _ => needed.saturating_sub(1),
     };
     pen.space(room.min(65_535));
-    let right = steps::any(&mut pen.random, pen.debouncer.switches().min(128));
+    let right = pictures::any(&mut pen.random, pen.beside.debouncer.switches().min(128));
     match pen.random.below(3) {
         0 => bad_scan(pen),
         1 => pen.update(&right),
@@ -49,7 +49,7 @@ fn cramped(pen: &mut Pen) {
 /// A scan that the debouncer, as it stands, is to refuse.
 pub fn scan(pen: &mut Pen) -> Vec<u8> {
     // the sizes of a debouncer that was set may be any
-    let switches = pen.debouncer.switches().min(200);
+    let switches = pen.beside.debouncer.switches().min(200);
     let random = &mut pen.random;
     let length = match random.below(9) {
         0 => 0,
@@ -59,7 +59,7 @@ pub fn scan(pen: &mut Pen) -> Vec<u8> {
         4 => random.pick(&[200, 129, 256, switches + 256]),
         _ => switches,
     };
-    let mut scan = steps::any(random, length);
+    let mut scan = pictures::any(random, length);
     if length > 0 && (length == switches || random.once_in(4)) {
         let at = match random.below(3) {
             0 => 0,
@@ -75,7 +75,7 @@ pub fn scan(pen: &mut Pen) -> Vec<u8> {
 pub fn making(pen: &mut Pen, shape: (u16, u16)) {
     let (mut shape, mut nb_bounce) = (shape, pen.random.pick(&[0, 2, 65_534]));
     let switches = usize::from(shape.0 * shape.1);
-    let mut start = steps::any(&mut pen.random, switches);
+    let mut start = pictures::any(&mut pen.random, switches);
     for _ in 0..pen.random.among(1, 2) {
         match pen.random.below(4) {
             0 => shape.0 = size(&mut pen.random, &[0, 9, 10, 17]),
@@ -87,7 +87,7 @@ pub fn making(pen: &mut Pen, shape: (u16, u16)) {
     pen.make(shape, nb_bounce, &start);
     for _ in 0..pen.random.among(0, 3) {
         let length = if pen.random.once_in(4) { switches } else { 1 };
-        let scan = steps::any(&mut pen.random, length);
+        let scan = pictures::any(&mut pen.random, length);
         pen.scan(&scan);
     }
 }
@@ -106,7 +106,7 @@ fn bad_start(random: &mut Random, switches: usize) -> Vec<u8> {
         1 => random.pick(&[128, 129, 200]),
         _ => switches,
     };
-    let mut start = steps::any(random, length);
+    let mut start = pictures::any(random, length);
     if length == switches {
         let at = random.below(length);
         start[at] = random.among(2, 9) as u8;

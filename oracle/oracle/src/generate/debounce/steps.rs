@@ -3,8 +3,8 @@
 //! Assumes: the debouncer is legal, so a scan of the right length is taken.
 
 use super::pen::Pen;
+use super::pictures::changed;
 use super::refusals;
-use crate::random::Random;
 
 /// Above this no run of scans reaches `nb_bounce` but the long ones that are made for it.
 const MOST_REACHED: usize = 30;
@@ -19,7 +19,7 @@ pub fn run(pen: &mut Pen, scans: usize) {
 
 /// How many scans make a change, or a few where that is out of reach.
 fn enough(pen: &Pen) -> usize {
-    let needed = usize::from(pen.debouncer.nb_bounce) + 1;
+    let needed = usize::from(pen.beside.debouncer.nb_bounce) + 1;
     if needed > MOST_REACHED {
         3
     } else {
@@ -62,7 +62,7 @@ fn step(pen: &mut Pen) {
 
 /// The accepted picture's switches.
 fn accepted(pen: &Pen) -> Vec<u8> {
-    pen.debouncer.accepted[..pen.debouncer.switches()].to_vec()
+    pen.beside.debouncer.accepted[..pen.beside.debouncer.switches()].to_vec()
 }
 
 fn bounce(pen: &mut Pen, pictures: &[Vec<u8>]) {
@@ -90,31 +90,4 @@ fn take(pen: &mut Pen, picture: &[u8]) {
     if pen.random.once_in(30) {
         pen.picture();
     }
-}
-
-/// A picture with one key changed, or some, or many, or all.
-pub fn changed(random: &mut Random, picture: &[u8]) -> Vec<u8> {
-    let mut other = picture.to_vec();
-    let mut flip = |at: usize| other[at] = 1 - other[at];
-    match random.below(8) {
-        0 => flip(0),
-        1 => flip(picture.len() - 1),
-        2..=4 => flip(random.below(picture.len())),
-        5 => (0..picture.len()).for_each(flip),
-        6 => (0..picture.len()).for_each(|at| {
-            if random.once_in(2) {
-                flip(at);
-            }
-        }),
-        _ => (0..3).for_each(|_| flip(random.below(picture.len()))),
-    }
-    other
-}
-
-/// Any picture, more often one without keys down.
-pub fn any(random: &mut Random, switches: usize) -> Vec<u8> {
-    let down = random.pick(&[0, 0, 1, 4]);
-    (0..switches)
-        .map(|_| u8::from(random.below(4) < down))
-        .collect()
 }

@@ -62,8 +62,8 @@ pub struct Counts {
     begun: [usize; TIMEOUTS.len() + 1],
 }
 
-impl Counts {
-    pub fn new() -> Self {
+impl Default for Counts {
+    fn default() -> Self {
         Counts {
             images: 0,
             calls: 0,
@@ -72,7 +72,9 @@ impl Counts {
             begun: [0; TIMEOUTS.len() + 1],
         }
     }
+}
 
+impl Counts {
     pub fn add(&mut self, situation: Situation) {
         self.times[situation as usize] += 1;
     }

@@ -11,7 +11,8 @@ pub mod tables;
 
 use super::draft::Draft;
 use super::grow::Reach;
-use super::{spoil, Kind};
+use super::kind::Kind;
+use super::spoil;
 use crate::paper::image::Z;
 use crate::script::Script;
 use pen::Pen;
@@ -99,8 +100,7 @@ impl Traces {
         while self.pen.counts.calls < self.wanted && !self.pen.is_full() {
             run(&mut self.pen, 200);
         }
-        let script = self.pen.script();
-        (!script.lines.is_empty()).then_some(script)
+        self.pen.script().if_any()
     }
 }
 
@@ -148,9 +148,7 @@ pub fn sample(count: usize, seed: u64) -> Script {
         pen.image(&image);
         trace(&mut pen, 40);
     }
-    let mut script = pen.script();
-    script.lines.truncate(count);
-    script
+    pen.sample(count)
 }
 
 /// A trace over a table; now and then some calls over an image that is refused.
@@ -238,7 +236,7 @@ mod tests {
     use super::*;
     use crate::answers::both::MARK;
     use crate::answers::replay::answers;
-    use crate::generate::{all, starting};
+    use crate::generate::kind::{all, starting};
 
     const CALLS: usize = 60_000;
 

@@ -82,7 +82,7 @@ fn press_some(pen: &mut Pen) {
 
 /// Releases a key that is down; now and then one that is not.
 fn release_some(pen: &mut Pen) {
-    let down: Vec<Coord> = pen.down.iter().copied().collect();
+    let down: Vec<Coord> = pen.beside.down.iter().copied().collect();
     let at = match down.is_empty() || pen.random.once_in(20) {
         true => some_key(pen),
         false => pen.random.pick(&down),
@@ -199,7 +199,7 @@ fn behind(pen: &mut Pen) {
 }
 
 fn press_again(pen: &mut Pen) {
-    let down: Vec<Coord> = pen.down.iter().copied().collect();
+    let down: Vec<Coord> = pen.beside.down.iter().copied().collect();
     if !down.is_empty() {
         let at = pen.random.pick(&down);
         pen.press(at);
@@ -239,7 +239,7 @@ fn press_many(pen: &mut Pen) {
 }
 
 fn release_all(pen: &mut Pen) {
-    let down: Vec<Coord> = pen.down.iter().copied().collect();
+    let down: Vec<Coord> = pen.beside.down.iter().copied().collect();
     for at in down {
         pen.release(at);
         some_ticks(pen, 1);

@@ -1,98 +1,69 @@
-//! Writes the lines of a script over the layout, and makes each call beside it: so what is written next can be
-//! aimed at the layout as it stands, and what happens is counted.
+//! The pen's part for scripts over the layout: their lines, and the layout on which each call is made beside them.
 //!
-//! Assumes: the paper's steps are those of both sides; where they are not, the comparison tells.
+//! Assumes: as the pen.
 
-use super::super::page::Page;
+use super::super::pen::{self, Beside};
 use super::counts::{Counts, Situation};
 use crate::paper::calls::{Call, Given};
 use crate::paper::image::Parts;
 use crate::paper::layout::{Coord, Event, Mark, Queued, State, Waiting, MOST_STATES};
-use crate::random::Random;
-use crate::script::Script;
 use crate::words::to_hex;
 use std::collections::BTreeSet;
-
-/// Lines are short and answers are kept whole, so a script ends by its lines too.
-const LINES_A_SCRIPT: usize = 400_000;
 
 /// The fewest ticks that count as a long wait: a timeout of 65,535, less one of delay.
 const LONG: usize = 65_534;
 
-pub struct Pen {
-    pub random: Random,
-    pub counts: Counts,
+/// What calls are given, and the keys.
+#[derive(Default)]
+pub struct OfLayout {
     given: Given,
     /// The keys that are down on the matrix.
     pub down: BTreeSet<Coord>,
     /// How many ticks the hold-tap that waits has waited.
     waited: usize,
-    page: Page,
 }
 
+impl Beside for OfLayout {
+    type Counts = Counts;
+
+    /// Lines are short and answers are kept whole, so a script ends by its lines too.
+    const LINES_A_SCRIPT: usize = 400_000;
+}
+
+pub type Pen = pen::Pen<OfLayout>;
+
 impl Pen {
-    pub fn new(seed: u64) -> Self {
-        Pen {
-            random: Random::new(seed),
-            counts: Counts::new(),
-            given: Given::default(),
-            down: BTreeSet::new(),
-            waited: 0,
-            page: Page::default(),
-        }
-    }
-
-    pub fn lines(&self) -> usize {
-        self.page.lines()
-    }
-
-    pub fn is_full(&self) -> bool {
-        self.page.is_full() || self.page.lines() >= LINES_A_SCRIPT
-    }
-
-    /// The script written so far; the next one starts as every script does.
-    pub fn script(&mut self) -> Script {
-        self.given = Given::default();
-        self.down.clear();
-        self.page.script()
-    }
-
-    /// A line that is not stepped beside, and of which nothing is counted.
-    pub fn write(&mut self, line: &str) {
-        self.page.write(line);
-    }
-
     pub fn image(&mut self, bytes: &[u8]) {
         self.write(&format!("image {}", to_hex(bytes)));
         self.counts.images += 1;
-        self.given.bring(bytes);
-        self.down.clear();
+        self.beside.given.bring(bytes);
+        self.beside.down.clear();
     }
 
     /// The table, if the image is accepted.
     pub fn table(&self) -> Option<&Parts> {
-        self.given.image.as_ref().ok()
+        self.beside.given.image.as_ref().ok()
     }
 
     pub fn waiting(&self) -> Option<Waiting> {
-        self.given.layout().waiting
+        self.beside.given.layout().waiting
     }
 
     /// The default layer, the number of states and the number of queued events.
     pub fn sizes(&self) -> (u16, usize, usize) {
-        let layout = self.given.layout();
+        let layout = self.beside.given.layout();
         (layout.default, layout.states.len(), layout.queue.len())
     }
 
     pub fn press(&mut self, at: Coord) -> u8 {
-        if !self.down.insert(at) {
+        if !self.beside.down.insert(at) {
             self.counts.add(Situation::PressedTwice);
         }
         self.call(Call::Event(Event::Press(at)))
     }
 
     pub fn release(&mut self, at: Coord) -> u8 {
-        if !self.down.remove(&at) {
+        if !self.beside.down.remove(&at) {
             self.counts.add(Situation::ReleasedUp);
         }
         self.call(Call::Event(Event::Release(at)))
@@ -100,7 +71,7 @@ impl Pen {
 
     pub fn tick(&mut self) -> u8 {
         if self.waiting().is_some() {
-            self.waited += 1;
+            self.beside.waited += 1;
         }
         self.call(Call::Tick)
     }
@@ -118,7 +89,7 @@ impl Pen {
     /// 0, or the refusal's number.
     fn call(&mut self, call: Call) -> u8 {
         self.write(&call.to_string());
-        match self.given.call(call) {
+        match self.beside.given.call(call) {
             Ok(marks) => {
                 self.counts.add_call(&marks);
                 self.watch_waits(&marks);
@@ -134,10 +105,10 @@ impl Pen {
     fn watch_waits(&mut self, marks: &[Mark]) {
         for mark in marks {
             match mark {
-                Mark::Begun { .. } => self.waited = 0,
-                Mark::Decided { .. } if self.waited >= LONG => {
+                Mark::Begun { .. } => self.beside.waited = 0,
+                Mark::Decided { .. } if self.beside.waited >= LONG => {
                     self.counts.add(Situation::LongWait);
-                    self.waited = 0;
+                    self.beside.waited = 0;
                 }
                 _ => (),
             }
@@ -146,7 +117,7 @@ impl Pen {
 
     pub fn room(&mut self, length: usize) {
         self.write(&format!("room {length}"));
-        self.given.room = length;
+        self.beside.given.room = length;
     }
 
     /// As much room as there is at first.
@@ -156,12 +127,13 @@ impl Pen {
 
     pub fn set_default(&mut self, layer: u16) {
         self.write(&format!("default {layer}"));
-        self.given.set(|held| held.default = layer);
+        self.beside.given.set(|held| held.default = layer);
     }
 
     pub fn set_counts(&mut self, states: u16, queued: u16) {
         self.write(&format!("counts {states} {queued}"));
-        self.given
+        self.beside
+            .given
             .set(|held| (held.state_count, held.queue_count) = (states, queued));
     }
 
@@ -171,7 +143,7 @@ impl Pen {
             State::Layer { number, at } => (format!("layer {number}"), at),
         };
         self.write(&format!("state {place} {words} {i} {j}"));
-        self.given.set(|held| held.states[place] = state);
+        self.beside.given.set(|held| held.states[place] = state);
     }
 
     pub fn set_queued(&mut self, place: usize, queued: Queued) {
@@ -180,7 +152,7 @@ impl Pen {
             Event::Release(at) => ("r", at),
         };
         self.write(&format!("queue {place} {way} {i} {j} {}", queued.age));
-        self.given.set(|held| held.queue[place] = queued);
+        self.beside.given.set(|held| held.queue[place] = queued);
     }
 
     pub fn set_waiting(&mut self, waiting: Option<Waiting>) {
@@ -190,6 +162,6 @@ impl Pen {
             }
             None => self.write("idle"),
         }
-        self.given.set(|held| held.waiting = waiting);
+        self.beside.given.set(|held| held.waiting = waiting);
     }
 }

@@ -66,7 +66,7 @@ fn used(count: &mut u16, least: u16, places: usize) -> usize {
 
 fn code(held: &mut Held, random: &mut Random) {
     let used = used(&mut held.state_count, 1, MOST_STATES);
-    let place = some_place(random, 0, used);
+    let place = random.place(0, used);
     held.states[place] = State::Key {
         code: codes::illegal(random),
         at: (random.below(3) as u8, random.below(3) as u8),
@@ -76,7 +76,7 @@ fn code(held: &mut Held, random: &mut Random) {
 /// Makes an event older than the one in front of it, mostly by one tick.
 fn age(held: &mut Held, random: &mut Random, table: &Parts) {
     let used = used(&mut held.queue_count, 2, MOST_QUEUED);
-    let place = some_place(random, 1, used);
+    let place = random.place(1, used);
     let front = &mut held.queue[place - 1];
     front.age = front.age.min(65_534);
     let age = match random.below(3) {
@@ -114,7 +114,7 @@ fn wrong_wait(random: &mut Random, table: &Parts, cause: Cause) -> (u16, u16) {
 
 fn unused_state(held: &mut Held, random: &mut Random, table: &Parts) {
     held.state_count = held.state_count.min(63);
-    let place = some_place(random, held.state_count.into(), MOST_STATES);
+    let place = random.place(held.state_count.into(), MOST_STATES);
     let at = (0, 0);
     held.states[place] = match random.below(6) {
         0 => State::Layer { number: 0, at },
@@ -135,7 +135,7 @@ fn unused_state(held: &mut Held, random: &mut Random, table: &Parts) {
 fn unused_event(held: &mut Held, random: &mut Random, table: &Parts) {
     use crate::paper::layout::Event::{Press, Release};
     held.queue_count = held.queue_count.min(15);
-    let place = some_place(random, held.queue_count.into(), MOST_QUEUED);
+    let place = random.place(held.queue_count.into(), MOST_QUEUED);
     let (event, age) = match random.below(5) {
         0 => (Press((0, 0)), 0),
         1 => (Release((0, 0)), random.pick(&[1, 256, 65_535])),
@@ -146,26 +146,17 @@ fn unused_event(held: &mut Held, random: &mut Random, table: &Parts) {
     held.queue[place] = Queued { event, age };
 }
 
-/// A place of a stretch, more often its first or last.
-fn some_place(random: &mut Random, first: usize, end: usize) -> usize {
-    match random.below(4) {
-        0 => first,
-        1 => end - 1,
-        _ => random.among(first, end - 1),
-    }
-}
-
 #[cfg(test)]
 mod tests {
     use super::*;
-    use crate::generate::lively_image;
+    use crate::generate::layout::tables::lively;
     use crate::paper::image::check;
 
     #[test]
     fn each_cause_makes_an_illegal_state() {
         let mut random = Random::new(2);
         for _ in 0..500 {
-            let table = check(&lively_image(&mut random)).expect("an accepted table");
+            let table = check(&lively(&mut random).bytes()).expect("an accepted table");
             for cause in CAUSES {
                 let mut held = legal::layout(&mut random, &table);
                 assert!(held.layout(&table).is_some(), "{held:?}");

@@ -7,9 +7,10 @@ mod causes;
 mod legal;
 
 use super::grow::Reach;
+use super::kind::Kind;
 use super::layout::pen::Pen;
 use super::layout::{tables, trace};
-use super::{spoil, Kind};
+use super::spoil;
 use crate::paper::image::{check, Z};
 use crate::paper::layout::{Event, Layout, Queued, State, Waiting};
 use crate::paper::state::{Held, NO_EVENT, NO_STATE};
@@ -81,8 +82,7 @@ impl Kind for States {
         while self.counts.all() < self.wanted && !self.pen.is_full() {
             run_one(&mut self.pen, &mut self.counts);
         }
-        let script = self.pen.script();
-        (!script.lines.is_empty()).then_some(script)
+        self.pen.script().if_any()
     }
 
     fn summary(&self, differences: usize) -> String {
@@ -110,9 +110,7 @@ pub fn sample(count: usize, seed: u64) -> Script {
     while pen.lines() < count {
         run_one(&mut pen, &mut counts);
     }
-    let mut script = pen.script();
-    script.lines.truncate(count);
-    script
+    pen.sample(count)
 }
 
 fn run_one(pen: &mut Pen, counts: &mut Counts) {
@@ -267,7 +265,7 @@ mod tests {
     use super::*;
     use crate::answers::both::MARK;
     use crate::answers::replay::answers;
-    use crate::generate::all;
+    use crate::generate::kind::all;
 
     const N: usize = 60_000;
 
