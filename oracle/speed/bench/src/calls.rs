@@ -2,12 +2,8 @@
 //!
 //! Assumes: a script is an image and three bytes a call, as `rust.rs` and the port's `pace` read it.
 
-use super::cases::Case;
+use super::case::{Call, Case, TICK};
 use super::tables;
-
-type Call = [u8; 3];
-
-const TICK: Call = [2, 0, 0];
 
 fn press(key: [u8; 2]) -> Call {
     [1, key[0], key[1]]
@@ -52,13 +48,7 @@ impl Keys {
     }
 
     fn case(&self, name: &str, before: Vec<Call>, last: Call) -> Case {
-        Case {
-            part: self.part,
-            name: name.into(),
-            size: None,
-            before: self.script(&before),
-            after: self.script(&[&before[..], &[last]].concat()),
-        }
+        Case::new(self.part, name, self.script(&before), &last)
     }
 
     fn grown(
@@ -69,11 +59,7 @@ impl Keys {
         before: Vec<Call>,
         last: Call,
     ) -> Case {
-        Case {
-            part,
-            size: Some(size),
-            ..self.case(name, before, last)
-        }
+        Case::new(part, name, self.script(&before), &last).sized(size)
     }
 
     /// The calls by how many states there are, and how many events are queued.

@@ -1,23 +1,14 @@
-//! What is counted: the cases, each as two inputs of the port's `pace`. A call costs what the second input costs more.
+//! What is counted: all cases.
 //!
 //! Assumes: the first byte of an input says what is driven: 0 a layout, 1 a debouncer, 2 the codes of a report, 3 a
 //! keyboard. With any other nothing is.
 
 use super::calls::Keys;
+use super::case::Case;
 use super::checked;
 
 /// Nothing is driven.
 const NOTHING: u8 = 255;
-
-#[derive(Clone)]
-pub struct Case {
-    pub part: &'static str,
-    pub name: String,
-    /// Of what grows, how much there is.
-    pub size: Option<usize>,
-    pub before: Vec<u8>,
-    pub after: Vec<u8>,
-}
 
 /// So many switches down, the rest of 8 by 16 up.
 fn scan(down: usize) -> Vec<u8> {
@@ -27,14 +18,7 @@ fn scan(down: usize) -> Vec<u8> {
 fn scans() -> Vec<Case> {
     let case = |name: &str, before: &[usize], last: usize| {
         let before: Vec<u8> = before.iter().flat_map(|&down| scan(down)).collect();
-        let before = [&[1], &before[..]].concat();
-        Case {
-            part: "scan",
-            name: name.into(),
-            size: None,
-            after: [&before[..], &scan(last)].concat(),
-            before,
-        }
+        Case::new("scan", name, [&[1], &before[..]].concat(), &scan(last))
     };
     vec![
         case("scan, nothing changes", &[], 0),
@@ -67,13 +51,7 @@ fn keyboards() -> Vec<Case> {
     let first = [4, 0, 0, 0, 0, 0, 0, 0];
     let other = [5, 0, 0, 0, 0, 0, 0, 0];
     let before = [&[3], &first[..]].concat();
-    let case = |name: &str, last: [u8; 8]| Case {
-        part: "keyboard",
-        name: name.into(),
-        size: None,
-        before: before.clone(),
-        after: [&before[..], &last].concat(),
-    };
+    let case = |name: &str, last: [u8; 8]| Case::new("keyboard", name, before.clone(), &last);
     vec![
         case("keyboard, the report as before", first),
         case("keyboard, another report", other),

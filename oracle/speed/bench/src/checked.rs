@@ -2,7 +2,7 @@
 //!
 //! Assumes nothing.
 
-use super::cases::Case;
+use super::case::{Case, TICK};
 use super::tables::{self, image};
 
 type Records = Vec<[usize; 4]>;
@@ -151,27 +151,20 @@ fn of_entries() -> Vec<(&'static str, usize, Vec<u8>)> {
 }
 
 /// A table in a tick of a fresh layout.
-fn case(part: &'static str, name: &str, size: Option<usize>, table: Vec<u8>) -> Case {
-    let before = [&[0], &table[..]].concat();
-    Case {
-        part,
-        name: name.into(),
-        size,
-        after: [&before[..], &[2, 0, 0]].concat(),
-        before,
-    }
+fn case(part: &'static str, name: &str, table: Vec<u8>) -> Case {
+    Case::new(part, name, [&[0], &table[..]].concat(), &TICK)
 }
 
 pub fn cases() -> Vec<Case> {
     let given = single().into_iter();
-    let given = given.map(|(name, table)| case("image", name, None, table));
+    let given = given.map(|(name, table)| case("image", name, table));
     let parts = [
         ("cells", of_cells()),
         ("records", of_records()),
         ("entries", of_entries()),
     ];
     let grown = parts.into_iter().flat_map(|(part, tables)| {
-        let one = move |(name, size, table)| case(part, name, Some(size), table);
+        let one = move |(name, size, table)| case(part, name, table).sized(size);
         tables.into_iter().map(one)
     });
     given.chain(grown).collect()

@@ -4,6 +4,7 @@
 //! Assumes: an input is one that `input` wrote, and a file of counts one that `oracle/speed/run` wrote.
 
 mod calls;
+mod case;
 mod cases;
 mod checked;
 mod counts;
