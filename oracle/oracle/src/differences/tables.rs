@@ -72,7 +72,7 @@ fn codes(count: usize) -> Action {
 
 /// 257 different actions, in three layers of 8 by 16: the 193 key codes, and Layer 0 to 63.
 fn many_records() -> Layers {
-    let codes = (0..=255).filter_map(key_code).map(Action::KeyCode);
+    let codes = (0..=255).filter_map(of_byte).map(Action::KeyCode);
     let all: Vec<Action> = codes.chain((0..64).map(Action::Layer)).collect();
     let rows: Vec<&'static [Action]> = all.chunks(16).map(|row| kept(row.to_vec())).collect();
     kept(rows.chunks(8).map(|layer| kept(layer.to_vec())).collect())
@@ -80,7 +80,7 @@ fn many_records() -> Layers {
 
 /// Seventeen keys, each with 63 times a code of its own: no two lists can share an entry.
 fn many_entries() -> Layers {
-    let code = |byte: u8| key_code(byte).expect("a legal code");
+    let code = |byte: u8| of_byte(byte).expect("a legal code");
     let keys = (4..21).map(|byte| Action::MultipleKeyCodes(kept(vec![code(byte); 63])));
     let keys: Vec<Action> = keys.collect();
     let rows = keys.chunks(16).map(|row| kept(row.to_vec())).collect();
