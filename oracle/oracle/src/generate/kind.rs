@@ -1,4 +1,6 @@
 //! What every kind of script is to a comparison.
+//!
+//! Assumes nothing.
 
 use crate::script::Script;
 
