@@ -3,93 +3,17 @@
 //! Assumes: what is asked is a line of `replay`. The port's answers are those of the command that is given; without
 //! one the second opinion answers, which is this program's own `replay`.
 
+mod entry;
 mod foretold;
 mod reports;
 mod scans;
 mod tables;
 mod trees;
 
-use crate::guard::{self, Guarded};
-use crate::words;
+use crate::guard;
+use entry::{Asked, Entry};
 use std::io::{self, Write};
 use std::process::{Command, ExitCode, Stdio};
-
-/// An entry: its name, what the Rust did, and what is asked of the port.
-struct Entry {
-    name: &'static str,
-    /// A line for each thing that was done and what came of it, or why the Rust cannot be given it.
-    rust: Vec<String>,
-    here: Vec<Asked>,
-    /// What there is to say beside the answers, or where no line of `replay` shows it.
-    note: &'static str,
-}
-
-/// A line of `replay`, and the words that tell it.
-struct Asked {
-    label: String,
-    line: String,
-}
-
-impl Entry {
-    fn new(name: &'static str, rust: Vec<String>, here: Vec<Asked>) -> Self {
-        Entry {
-            name,
-            rust,
-            here,
-            note: "",
-        }
-    }
-
-    /// An input that the Rust's types have no value for.
-    fn unwritable(name: &'static str, why: &str, here: Vec<Asked>) -> Self {
-        Entry::new(name, vec![format!("cannot be written: {why}")], here)
-    }
-
-    fn noting(self, note: &'static str) -> Self {
-        Entry { note, ..self }
-    }
-
-    fn text(&self, answers: &[String]) -> String {
-        let rust = self.rust.iter().map(|line| format!("  Rust  {line}\n"));
-        let asked = self.here.iter().zip(answers);
-        let here = asked.map(|(asked, answer)| format!("  here  {}: {answer}\n", asked.label));
-        let note = match self.note {
-            "" => String::new(),
-            note => format!("  here  {note}\n"),
-        };
-        let lines: String = rust.chain(here).collect();
-        format!("{}\n{lines}{note}", self.name)
-    }
-}
-
-impl Asked {
-    fn image(label: String, bytes: &[u8]) -> Self {
-        Asked {
-            label,
-            line: format!("image {}", words::to_hex(bytes)),
-        }
-    }
-}
-
-/// What code of the Rust yields, or the message of its panic.
-fn attempt<R>(code: impl FnOnce() -> R) -> Result<R, String> {
-    let mut yielded = None;
-    let keep = |_: &mut ()| {
-        yielded = Some(code());
-        String::new()
-    };
-    Guarded::new(()).attempt(keep)?;
-    Ok(yielded.expect("code that does not panic yields"))
-}
-
-/// Lines that tell themselves.
-fn lines(lines: &[&str]) -> Vec<Asked> {
-    let asked = |line: &&str| Asked {
-        label: line.to_string(),
-        line: line.to_string(),
-    };
-    lines.iter().map(asked).collect()
-}
 
 /// The entries in the document's order.
 fn entries() -> Vec<Entry> {
@@ -172,6 +96,7 @@ fn answers(command: &[String], asked: &[Asked]) -> io::Result<Vec<String>> {
 
 #[cfg(test)]
 mod tests {
+    use super::entry::lines;
     use super::*;
     use crate::answers::replay;
     use crate::script::Script;

@@ -2,7 +2,7 @@
 //!
 //! Assumes: nothing.
 
-use super::{lines, Asked, Entry};
+use super::entry::{lines, Asked, Entry};
 use crate::paper::image::Z;
 use crate::{key_code, words};
 use keyberon::action::{k, l};

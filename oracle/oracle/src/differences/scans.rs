@@ -3,7 +3,7 @@
 //! Assumes: the Rust's pictures are arrays of arrays of bool, as its documentation has them, or vectors of vectors,
 //! which its bounds take too.
 
-use super::{attempt, lines, Entry};
+use super::entry::{attempt, lines, Entry};
 use keyberon::debounce::Debouncer;
 use keyberon::layout::Event;
 

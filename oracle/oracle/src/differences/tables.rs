@@ -2,8 +2,9 @@
 //!
 //! Assumes: a table is given to the Rust as trees and to the port as the image of the same trees.
 
+use super::entry::{lines, Asked, Entry};
+use super::foretold;
 use super::trees::{as_image, hold_tap, kept, list, row, told};
-use super::{foretold, lines, Asked, Entry};
 use crate::key_code::of_byte;
 use crate::paper::image::Z;
 use keyberon::action::Action;

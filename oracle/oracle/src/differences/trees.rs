@@ -2,7 +2,7 @@
 //!
 //! Assumes: what is kept here is kept until the program ends, since the Rust asks for references that last for ever.
 
-use super::Asked;
+use super::entry::Asked;
 use crate::guard::Guarded;
 use crate::{key_code, words};
 use keyberon::action::Action;
