@@ -1,4 +1,5 @@
 -- `number::decimal` meets its contract. The loop's invariant: what the bytes that are left come to behind `n` is the whole answer.
+-- Where a test was met its bound is used by `omega`, so that a build with another bound fails where that is wrong.
 -- Assumes nothing.
 use Prim.Native.Nat.{_+_, _*_, _-_, _<_, _≤_}
 use mathlib.Core.Path.{_≡_, sym, ap, _∙_}
@@ -33,7 +34,7 @@ returns-3 : tie.Need-returns-3 Inv-loop μ-loop
 returns-3 c =
     let at-loop = c .before .before .before .before in
     let word = now (at-loop .before .before .args .word) in
-    ap valuesOf (sym (at-loop .loop .inv .2 ∙ read-above (at-loop .loop .n) word (at-loop .loop .i) (search needs) (c .if3 .taken)))
+    ap valuesOf (sym (at-loop .loop .inv .2 ∙ read-above (at-loop .loop .n) word (at-loop .loop .i) (search needs) (omega (arith, c .if3 .taken))))
 
 returns-4 : tie.Need-returns-4 Inv-loop μ-loop
 returns-4 c =
@@ -42,7 +43,7 @@ returns-4 c =
     let i = at-loop .loop .i in
     let n = at-loop .loop .n in
     let on = read-on n word i (search needs) (c .before .before .if2 .left) (c .before .if3 .left) in
-    ap valuesOf (sym (at-loop .loop .inv .2 ∙ on ∙ read-much (10 * n + (getD word i 0 - 48)) (drop (i + 1) word) (c .if4 .taken)))
+    ap valuesOf (sym (at-loop .loop .inv .2 ∙ on ∙ read-much (10 * n + (getD word i 0 - 48)) (drop (i + 1) word) (omega (arith, c .if4 .taken))))
 
 loop-again : tie.Need-loop-again Inv-loop μ-loop
 loop-again c =

@@ -1,4 +1,7 @@
--- `text::Text::put_place` meets its contract. Assumes nothing.
+-- `text::Text::put_place` meets its contract. Where the test was met it is used by `omega`, so that a build with another test
+-- fails where that is wrong. Assumes nothing.
+use Prim.Native.Nat.{_<_}
+use native.Mathlib.Omega.{arith}
 use borrow.Author.Needs.{needs}
 use Rattle.text.specs.Text.{putAll}
 use Rattle.text.proofs.Laws.{place-zero, place-past, place-digit}
@@ -13,7 +16,8 @@ returns-2 : tie.Need-returns-2
 unfolding putAll
 returns-2 c =
     let a = c .before .before .args in
-    rw (place-past (a .n) (a .unit) (search needs) (c .if2 .taken))
+    let counts : 0 < a .unit = search needs in
+    rw (place-past (a .n) (a .unit) counts (omega (arith, counts, c .if2 .taken)))
 
 returns-3 : tie.Need-returns-3
 unfolding putAll
