@@ -41,7 +41,7 @@ typedef struct Keyboard {
     uint16_t count; /* the clock calls of the running period */
 } Keyboard;
 
-/* A refusal's number or 0, and the report; a refused one is zero. */
+/* A refusal's number or 0, and the report; that of a refused call is zero. */
 typedef struct KeyboardGot {
     uint8_t number;
     KbHidReport report;

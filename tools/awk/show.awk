@@ -115,13 +115,18 @@ function listRows(of, start, to,    row, count) {
     return count
 }
 
+# plain text, not a pattern: what is asked for may have any character
+function endsIn(text, tail) {
+    return length(text) >= length(tail) && substr(text, length(text) - length(tail) + 1) == tail
+}
+
 # rows whose functions are so called; as many as have just that name, else those whose name ends so
 function byFunction(name, exact,    row, n, i, w, count) {
     for (row = 1; row <= rows; row++) {
         if (heading[section[row], 1] != "function") continue
         n = split(cell[row, 1], w, /[`:,]* +|`/)
         for (i = 1; i <= n; i++)
-            if (w[i] == name || (!exact && w[i] ~ "(::|_)" name "$")) {
+            if (w[i] == name || (!exact && (endsIn(w[i], "::" name) || endsIn(w[i], "_" name)))) {
                 chosen[++count] = row
                 calledSo[count] = w[i]
             }

@@ -90,6 +90,23 @@ static void idle(void)
     expect(!keyboard_clock(&kb) && kb.count == 1020);
 }
 
+/* docs/LINK.md's loop: the clock before the report, so that a change begins a period of its own. */
+static void loop(void)
+{
+    static const KbHidReport space = {{1, 0, 0x2C, 0, 0, 0, 0, 0}};
+    static const KbHidReport zero;
+    Keyboard kb = keyboard_new();
+    int sent = 0;
+    keyboard_set_idle(&kb, 1);
+    for (int ms = 1; ms <= 12; ms++) {
+        bool due = keyboard_clock(&kb);
+        bool changed = keyboard_set_keyboard_report(&kb, ms < 3 ? zero : space);
+        if (due || changed)
+            sent += 1 << ms;
+    }
+    expect(sent == (1 << 3) + (1 << 7) + (1 << 11));
+}
+
 static void described(void)
 {
     uint8_t out[KEYBOARD_DESCRIPTOR_LENGTH + 2];
@@ -111,6 +128,7 @@ int main(void)
     reports();
     lights();
     idle();
+    loop();
     described();
     if (failures == 0)
         printf("keyboard.c: the nine calls answer as include/keyboard.h says\n");

@@ -119,7 +119,7 @@ fn compared(n: usize, seed: u64, command: &[&str], folder: &Path) -> io::Result<
 pub fn run(n: usize, seed: u64, command: &[&str]) -> ExitCode {
     guard::silence();
     let folder = std::env::temp_dir().join(format!("compare-panel-{}", std::process::id()));
-    let done = fs::create_dir_all(&folder).and_then(|()| compared(n, seed, command, &folder));
+    let done = fs::create_dir(&folder).and_then(|()| compared(n, seed, command, &folder));
     match done {
         Ok(true) => {
             let _ = fs::remove_dir_all(&folder); // what is left over harms nobody
