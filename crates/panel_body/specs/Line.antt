@@ -52,8 +52,8 @@ doneFor image panel Unread = record { panel = panel; text = saying unreadLine }
 abbrev pub refusalLine : Checked → List ℕ
 refusalLine checked = refusedLine (toldOf checked .number) (toldOf checked .place)
 
--- what document 01 asks to be printed for a call. Number 0: the report of the codes, in hex; any other is a refusal, and is
--- told with its place
+-- what is to be printed for a call. Number 0: document 01's report of the codes, in hex; any other is a refusal, and is told
+-- with its place
 unfoldable pub answerLine : ℕ → ℕ → List ℕ → List ℕ
 answerLine number place codes = cond (eqb number 0) (hexOf (reportOf codes)) (refusedLine number place)
 

@@ -39,7 +39,7 @@ abbrev pub releaseAt : Coords → Line
 releaseAt (At i j) = Key (Release i j)
 releaseAt Nowhere = Unread
 
--- the line is this letter, a space and something more
+-- the line begins with this letter and a space
 unfoldable pub startsWith : ℕ → List ℕ → Bool
 startsWith letter cs = eqb (getD cs 0 0) letter && eqb (getD cs 1 0) 32
 

@@ -41,6 +41,7 @@ fn main() -> ExitCode {
     let args: Vec<String> = std::env::args().skip(1).collect();
     let words: Vec<&str> = args.iter().map(String::as_str).collect();
     let done = match words.as_slice() {
+        ["-h" | "--help"] => print(format!("{USAGE}\n").as_bytes()),
         ["replay"] => replay::run(),
         ["panel", image] => panel::run(image),
         ["names"] => print(key_code::names().as_bytes()),

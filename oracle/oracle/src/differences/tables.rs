@@ -54,6 +54,8 @@ pub fn limits() -> Vec<Entry> {
             &["p 0 0, p 0 1, 2 t"],
         ),
         of_table("layers-0", &[], &["p 0 0, t"]),
+        of_table("rows-0", &[&[]], &["p 0 0, t"]),
+        of_table("columns-0", &[&[&[]]], &["p 0 0, t"]),
         of_table("rows-9", rows, &["p 8 0, t"]),
         of_table("columns-17", row(&[B; 17]), &["p 0 16, t"]),
         of_table("records-257", many_records(), &["p 0 4, t"]),
@@ -95,9 +97,12 @@ static CIRCLE: Action = Action::HoldTap {
     tap: &NOTHING,
 };
 
-/// A hold-tap whose hold is itself: the Rust waits as long as the key is down, and acts on nothing behind it.
+/// A hold-tap whose hold is itself: the Rust waits as long as the key is down, and acts on nothing behind it, up to a
+/// seventeenth event. One that is its own tap, and a list that names itself, cannot be run: the Rust does not return.
 fn circle() -> Entry {
-    let rust = vec![told(row(&[CIRCLE, A]), "p 0 0, p 0 1, 100000 t")];
+    let keys = row(&[CIRCLE, A]);
+    let calls = ["p 0 0, p 0 1, 100000 t", "p 0 0, t, 17 p 0 1"];
+    let rust = calls.iter().map(|calls| told(keys, calls)).collect();
     // Z's hold-tap is record 3, and its hold is in bytes 48 and 49
     Entry::new("circle", rust, vec![spoilt(48, 3)])
 }
