@@ -1,8 +1,13 @@
 # What the scripts of this folder share, each of which sources it: a command is tried, and its exit status, standard output
 # and standard error are held to what they should be. The first that is not as it should be ends the script.
 #
-# Assumes: bash; the scripts stand in tools/tests.
+# Assumes: bash, and coreutils' env; the scripts stand in tools/tests.
 set -euo pipefail
+
+# A caller may have signals ignored, as nohup does and a job in the background; a shell cannot undo that.
+if [[ -z ${signals_as_usual-} ]]; then
+    signals_as_usual=1 exec env --default-signal=HUP,INT,PIPE,TERM "$0" "$@"
+fi
 
 root=$(dirname "$(dirname "$(dirname "$(readlink -f -- "${BASH_SOURCE[0]}")")")")
 work=$(mktemp -d)
