@@ -1,10 +1,11 @@
--- Changing a report is true exactly if it differs: `specs/Keyboard.antt`. Assumes nothing.
+-- Changing a report is true exactly if it differs: `specs/Keyboard.antt`; and the keyboard has it then, changed or not.
+-- Assumes nothing.
 use Prim.Native.Nat.{ℕ}
-use mathlib.Core.Bool.{true, false}
-use mathlib.Core.Path.{_≡_}
+use mathlib.Core.Bool.{Bool, true, false}
+use mathlib.Core.Path.{_≡_, refl}
 use native.Mathlib.Omega.{arith}
 use Rattle.lists.specs.Lists.{alike}
-use Rattle.lists.proofs.Laws.{alike-self, alike-not}
+use Rattle.lists.proofs.Laws.{alike-is, alike-self, alike-not}
 use Rattle.codes.specs.declared.report.KbHidReport.{KbHidReport}
 use Rattle.keyboard.specs.Keyboard.{reported, ExactlyIfDiffers}
 use Rattle.keyboard.specs.declared.Keyboard.{Keyboard}
@@ -18,6 +19,15 @@ equal-none k report e =
 differs-some : (k : Keyboard) (report : KbHidReport) → (k .report .bytes ≡ report .bytes → ⊥) → reported k report .changed ≡ true
 unfolding reported
 differs-some k report differs = rw (alike-not (k .report .bytes) (report .bytes) differs)
+
+-- the keyboard has the report that it was given, changed or not
+pub given-kept : (k : Keyboard) (report : KbHidReport) → reported k report .keyboard .report .bytes ≡ report .bytes
+unfolding reported
+given-kept k report = go (alike (k .report .bytes) (report .bytes)) refl
+  where
+    go : (t : Bool) → alike (k .report .bytes) (report .bytes) ≡ t → reported k report .keyboard .report .bytes ≡ report .bytes
+    go true e = rw e (alike-is (k .report .bytes) (report .bytes) e)
+    go false e = rw e
 
 pub exactly-if-differs : ExactlyIfDiffers
 unfolding ExactlyIfDiffers

@@ -1,29 +1,19 @@
--- Whatever the keyboard held, the report of the codes is printed, and the keyboard holds it: `specs/Line.antt`. A keyboard
--- that is given the report which it has keeps it. Assumes nothing.
+-- Whatever the keyboard held, the report of the codes is printed, and the keyboard holds it: `specs/Line.antt`. Assumes
+-- nothing.
 use mathlib.Core.Bool.{Bool, true, false}
 use mathlib.Core.Path.{_≡_, refl, ap}
 use borrow.Author.Tests.{eq-eqb}
 use lib.Dec.{eqb}
-use Rattle.lists.specs.Lists.{alike}
-use Rattle.lists.proofs.Laws.{alike-is}
 use Rattle.codes.specs.declared.report.KbHidReport.{KbHidReport}
-use Rattle.keyboard.specs.Keyboard.{reported, fetched}
+use Rattle.keyboard.specs.Keyboard.{fetched}
 use Rattle.keyboard.specs.declared.Keyboard.{Keyboard}
+use Rattle.keyboard.proofs.Changes.{given-kept}
 use Rattle.layout.specs.Calls.{Reply, codesTold}
 use Rattle.layout.specs.declared.layout.Layout.{Layout}
 use Rattle.text.specs.Text.{saying, hexOf}
 use Rattle.panel_body.specs.Line.{reportShown, printed, answerLine, PrintsTheReport}
 
--- the keyboard has the report that it was given, changed or not
-pub given-kept : (k : Keyboard) (report : KbHidReport) → reported k report .keyboard .report .bytes ≡ report .bytes
-unfolding reported
-given-kept k report = go (alike (k .report .bytes) (report .bytes)) refl
-  where
-    go : (t : Bool) → alike (k .report .bytes) (report .bytes) ≡ t → reported k report .keyboard .report .bytes ≡ report .bytes
-    go true e = rw e (alike-is (k .report .bytes) (report .bytes) e)
-    go false e = rw e
-
--- so that is what it answers and what is printed
+-- the keyboard has the report that it was given: so that is what it answers and what is printed
 shown-text : (layout : Layout) (k : Keyboard) (report : KbHidReport) → reportShown layout k report .text ≡ saying (hexOf (report .bytes))
 unfolding reportShown fetched
 shown-text layout k report = ap (λ bytes. saying (hexOf bytes)) (given-kept k report)
