@@ -1,8 +1,8 @@
--- The numbers of document 01, "Refusal numbers".
+-- The numbers of document 01, "Refusal numbers", and behind them those of document 02: 15 is of W-201.
 -- Assumes nothing.
 use Prim.Native.Nat.{ℕ}
 use Rattle.refusal.specs.declared.Refusal.{Refusal}
-use Rattle.refusal.specs.declared.Refusal.the-variants.{Short, Header, Length, Cell, Record, Code, Child, Nested, Weight, Scan, Bounce, Room, State, Request}
+use Rattle.refusal.specs.declared.Refusal.the-variants.{Short, Header, Length, Cell, Record, Code, Child, Nested, Weight, Scan, Bounce, Room, State, Request, Text}
 
 abbrev pub numberOf : Refusal → ℕ
 numberOf Short = 1
@@ -19,3 +19,4 @@ numberOf Bounce = 11
 numberOf Room = 12
 numberOf State = 13
 numberOf Request = 14
+numberOf Text = 15

@@ -1,6 +1,6 @@
-// The refusals of document 01, each under the name that the paper gives it; and a verdict, that nothing is refused or what is
-// and where. `specs/Number.antt` has the numbers, `specs/Verdict.antt` the order in which rules are asked for, and
-// `specs/Said.antt` what the paper says of an answer.
+// The refusals of documents 01 and 02, each under the name that the paper gives it; and a verdict, that nothing is refused
+// or what is and where. `specs/Number.antt` has the numbers, `specs/Verdict.antt` the order in which rules are asked for,
+// and `specs/Said.antt` what the paper says of an answer.
 // Assumes nothing.
 ghost use mathlib.Core.Path.{_≡_};
 ghost use Rattle.refusal.specs.Number.{numberOf};
@@ -21,6 +21,7 @@ pub enum Refusal {
     Room,
     State,
     Request,
+    Text,
 }
 
 impl Refusal {
@@ -43,6 +44,7 @@ impl Refusal {
             Refusal::Room => 12,
             Refusal::State => 13,
             Refusal::Request => 14,
+            Refusal::Text => 15,
         }
     }
 }
