@@ -14,8 +14,7 @@ use lib.Dec.{leb}
 use Rattle.lists.specs.Lists.{every}
 use Rattle.lists.proofs.Laws.{both-true, every-head}
 use Rattle.codes.specs.Codes.{legal}
-use Rattle.image.specs.Inside.{wordsFrom}
-use Rattle.image.specs.Words.{listAt, entryOf, entries, wordAt}
+use Rattle.image.specs.Words.{listAt, entryOf, entries, wordAt, wordsFrom}
 use Rattle.image.specs.Tree.{Action, end, _&_, named}
 use Rattle.image.proofs.Tests.{and-true}
 

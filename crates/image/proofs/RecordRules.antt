@@ -13,8 +13,8 @@ use Rattle.lists.specs.Lists.{every}
 use Rattle.lists.proofs.Laws.{both-true}
 use Rattle.codes.specs.Codes.{legal}
 use Rattle.refusal.specs.declared.Refusal.the-variants as refusal
-use Rattle.image.specs.Inside.{Placed, Formed, wordsFrom, childrenOf}
-use Rattle.image.specs.Words.{recordsOf, entriesOf, fieldOf, entries, wordAt}
+use Rattle.image.specs.Inside.{Placed, Formed, childrenOf}
+use Rattle.image.specs.Words.{recordsOf, entriesOf, fieldOf, entries, wordAt, wordsFrom}
 use Rattle.image.specs.Record.{actionOf, actionAt, codesIn, childrenIn, listEnd}
 use Rattle.image.specs.Tree.{Action, end, _&_, named, meaning, tree, open?, someOpen, shutButLast, opensLast, weight, weights}
 use Rattle.refusal.specs.Verdict.{rule}

@@ -14,6 +14,8 @@ use Rattle.image.proofs.rules.Checked.told as T
 use Rattle.image.proofs.areas.source_of as S
 use Rattle.image.proofs.areas.in_use as U
 use Rattle.image.proofs.areas.refusal_in_use as R
+use Rattle.image.proofs.header.counts_good as G
+use Rattle.image.proofs.words.word_or_zero as W
 
 pub cell-at : Decides C.ended (λ M. C.spec) (λ M. C.clauses)
 cell-at M 𝓤 H A m r = record { same = refl; free = λ κs a g. refl; only = λ κs a g g′ x x′ ws ws′. both 𝓤 _ _ _ (λ p q. (cell-one _ _ (p ∙ sym q), refl)) }
@@ -23,6 +25,12 @@ action-at M 𝓤 H A m r = record { same = refl; free = λ κs a g. refl; only =
 
 pub entry-at : Decides E.ended (λ M. E.spec) (λ M. E.clauses)
 entry-at M 𝓤 H A m r = record { same = refl; free = λ κs a g. refl; only = λ κs a g g′ x x′ ws ws′. both 𝓤 _ _ _ (λ p q. (entry-one _ _ (p ∙ sym q), refl)) }
+
+pub counts-good : Decides G.ended (λ M. G.spec) (λ M. G.clauses)
+counts-good M 𝓤 H A m r = record { same = refl; free = λ κs a g. refl; only = λ κs a g g′ x x′ ws ws′. both 𝓤 _ _ _ (λ p q. (p ∙ sym q, refl)) }
+
+pub word-or-zero : Decides W.ended (λ M. W.spec) (λ M. W.clauses)
+word-or-zero M 𝓤 H A m r = record { same = refl; free = λ κs a g. refl; only = λ κs a g g′ x x′ ws ws′. both 𝓤 _ _ _ (λ p q. (p ∙ sym q, refl)) }
 
 pub check : Decides K.ended (λ M. K.spec) (λ M. K.clauses)
 check M 𝓤 H A m r = record { same = refl; free = λ κs a g. refl; only = λ κs a g g′ x x′ ws ws′. both 𝓤 _ _ _ (λ p q. (said-one _ _ (p ∙ sym q), refl)) }

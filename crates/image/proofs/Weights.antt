@@ -10,8 +10,8 @@ use lib.ListN.{length}
 use lib.Dec.{eqb, leb, ltb}
 use Rattle.lists.specs.Lists.{every}
 use Rattle.lists.proofs.Laws.{every-head}
-use Rattle.image.specs.Inside.{Placed, Formed, wordsFrom, ChildWords, childrenAt, weighedOf, childrenOf, Parts}
-use Rattle.image.specs.Words.{recordsAt, wordAt, fieldOf, entries}
+use Rattle.image.specs.Inside.{Placed, Formed, ChildWords, childrenAt, weighedOf, childrenOf, Parts}
+use Rattle.image.specs.Words.{recordsAt, wordAt, fieldOf, entries, wordsFrom}
 use Rattle.image.specs.Record.{actionOf, childrenIn, listEnd}
 use Rattle.image.specs.Tree.{Action, Actions, named, meaning, tree, open?, someOpen, shutButLast, weight, weights}
 use Rattle.image.specs.Check.{form, formGood}

@@ -8,7 +8,7 @@ use mathlib.Core.List.{List, [], _∷_}
 use lib.ListN.{length}
 use lib.Dec.{ltb}
 use Rattle.lists.specs.Lists.{every}
-use Rattle.image.specs.Words.{wordAt, recordsOf, entriesOf, recordsAt, listAt}
+use Rattle.image.specs.Words.{wordAt, recordsOf, entriesOf, recordsAt, listAt, wordsFrom}
 use Rattle.image.specs.Record.{actionAt}
 use Rattle.image.specs.Tree.{Actions, named, tree, open?, someOpen, weight, weights}
 use Rattle.image.specs.Check.{formGood}
@@ -29,11 +29,6 @@ pub record Formed (img : List ℕ) (n : ℕ) : Type 0 where
   pub inside : n < recordsOf img
   pub form : formGood img n ≡ true
   pub before : (k : ℕ) → k < n → Good img k
-
--- so many words one after the other, from a byte offset on
-unfoldable pub wordsFrom : List ℕ → ℕ → ℕ → List ℕ
-wordsFrom img at zero = []
-wordsFrom img at (suc n) = wordAt img at ∷ wordsFrom img (at + 2) n
 
 -- such words are inside the image, and number records below n
 pub record ChildWords (img : List ℕ) (n at count : ℕ) : Type 0 where

@@ -9,6 +9,11 @@ use Rattle.image.specs.declared.words.Shape.{Shape}
 unfoldable pub wordAt : List ℕ → ℕ → ℕ
 wordAt img at = getD img at 0 + 256 * getD img (at + 1) 0
 
+-- so many words one after the other, from a byte offset on
+unfoldable pub wordsFrom : List ℕ → ℕ → ℕ → List ℕ
+wordsFrom img at zero = []
+wordsFrom img at (suc n) = wordAt img at ∷ wordsFrom img (at + 2) n
+
 -- the header: version, L, R, C, A, E, and the offsets of the records and of the list
 abbrev pub versionOf : List ℕ → ℕ
 versionOf img = wordAt img 0

@@ -5,7 +5,8 @@ use super::words::field;
 use super::words::word;
 ghost use mathlib.Core.Path.{_≡_};
 ghost use mathlib.Core.Bool.{_||_};
-ghost use Rattle.image.specs.Inside.{Placed, Formed, wordsFrom, childrenAt, weighedOf, childrenOf, Parts, WeighAsked, ChildrenAsked};
+ghost use Rattle.image.specs.Words.{wordsFrom};
+ghost use Rattle.image.specs.Inside.{Placed, Formed, childrenAt, weighedOf, childrenOf, Parts, WeighAsked, ChildrenAsked};
 ghost use Rattle.image.specs.Sound.{Good};
 
 // A record as the one that names it meets it: its word b, whether it is open by itself, and the words that number its own

@@ -24,7 +24,7 @@ pub(crate) fn both(a: bool, b: bool) -> bool
 }
 
 // The version and the five counts keep their rules.
-fn counts_good(version: usize, s: Shape) -> bool
+pub fn counts_good(version: usize, s: Shape) -> bool
     ensures { λ r. ⌜ r ≡ countsGood version s ⌝ }
 {
     let layers = is_within(1, 8, s.layers);

@@ -38,8 +38,8 @@ fn byte_or_zero(image: &[u8], at: u64) -> u16
     }
 }
 
-// The word at any place, for the lookups, which know nothing of their image.
-pub(crate) fn word_or_zero(image: &[u8], at: u64) -> u16
+// The word at any place, and 0 past the end: for the lookups, and for those above, which know nothing of their image.
+pub fn word_or_zero(image: &[u8], at: u64) -> u16
     ensures { λ r. ⌜ r ≡ wordAt (now (image .entry)) at ⌝ }
 {
     if (image.len() as u64) <= at {

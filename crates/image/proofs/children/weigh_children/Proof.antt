@@ -3,9 +3,9 @@ use Prim.Native.Nat.{ℕ, _*_, _+_, _-_, _<_, _≤_}
 use Rattle.image.proofs.Entries.{wordsAfter, words-all, below-no, below-none, below-on}
 use Rattle.image.proofs.Trees.{formed-lower}
 use Rattle.image.proofs.Weights.{childrenAfter, children-step, children-end, opens-on, opens-end, OfChild, leaf, parent, sum-no, sum-yes}
-use Rattle.image.specs.Inside.{wordsFrom, childrenAt}
+use Rattle.image.specs.Inside.{childrenAt}
 use Rattle.image.specs.Tree.{weights, someOpen}
-use Rattle.image.specs.Words.{wordAt}
+use Rattle.image.specs.Words.{wordAt, wordsFrom}
 use Rattle.lists.specs.Lists.{every}
 use borrow.Author.Needs.{needs}
 use borrow.Author.Tests.{le-ltb, lt-ltb}
