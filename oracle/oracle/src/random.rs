@@ -41,6 +41,19 @@ impl Random {
         items[self.below(items.len())]
     }
 
+    /// One of the items, each as often as its share of all shares.
+    pub fn by_share<T: Copy>(&mut self, items: &[(T, usize)]) -> T {
+        let all = items.iter().map(|(_, share)| share).sum();
+        let mut at = self.below(all);
+        for &(item, share) in items {
+            if at < share {
+                return item;
+            }
+            at -= share;
+        }
+        unreachable!("the shares sum up to all of them")
+    }
+
     /// Yes, once in `times`.
     pub fn once_in(&mut self, times: usize) -> bool {
         self.below(times) == 0

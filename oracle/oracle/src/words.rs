@@ -3,8 +3,8 @@
 //!
 //! Assumes: a line comes without its newline.
 
-/// The longest line that is read, in bytes.
-pub const LONGEST: usize = 32_768;
+/// The longest line that is read, in bytes: one with a text of 30,000 bytes in hex is.
+pub const LONGEST: usize = 65_536;
 
 /// The words of a line, parted by exactly one space; nothing for a line that is too long, empty, or has
 /// an empty word. Bytes that no word may have are left to the readers below, which refuse them.

@@ -12,6 +12,7 @@ mod keyboard;
 pub mod layout;
 pub mod panel;
 pub mod replay;
+mod text;
 
 /// The answer to a line that cannot be read.
 const UNREADABLE: &str = "?";

@@ -6,7 +6,7 @@
 use super::debouncer::Bounces;
 use super::keyboard::Board;
 use super::layout::Keys;
-use super::{codes, Adapter, UNREADABLE};
+use super::{codes, text, Adapter, UNREADABLE};
 use crate::paper::areas;
 use crate::{guard, words};
 use std::io::{self, BufRead, BufWriter, Write};
@@ -52,6 +52,7 @@ impl Replay {
                 }
                 _ => None,
             },
+            b"write" | b"print" => text::answer(command, rest),
             b"debounce" | b"debouncer" | b"scan" | b"update" | b"picture" | b"space" => {
                 self.bounces.answer(command, rest)
             }
@@ -86,6 +87,7 @@ pub fn answers(script: &crate::script::Script) -> Vec<String> {
 mod tests {
     use super::*;
     use crate::paper::image::Z;
+    use crate::paper::text::Z_TEXT;
     use crate::script::Script;
 
     /// The answers to lines, given one after the other.
@@ -122,5 +124,67 @@ mod tests {
         assert_eq!(got[4], "codes - | acted - | decided -");
         assert_eq!(got[6], "codes e0 | acted - | decided hold 0 0");
         assert_eq!(answers(&[&areas, "t"]), ["built-in 52", "refused 1 0"]);
+    }
+
+    #[test]
+    fn texts_are_written_and_images_printed() {
+        let (z, text) = (words::to_hex(&Z), words::to_hex(Z_TEXT.as_bytes()));
+        for (line, answer) in [
+            (format!("write {text} 52"), format!("image {z}")),
+            (format!("write {text} 00052"), format!("image {z}")),
+            (format!("print {z} 49"), format!("text {text}")),
+            (format!("print {z} 65535"), format!("text {text}")),
+        ] {
+            assert_eq!(answers(&[&line]), [answer], "{line}");
+        }
+        for (line, answer) in [
+            (format!("write {text} 51"), "refused 12 0"),
+            (format!("write {text}20 52"), "refused 15 7"),
+            ("write - 0".to_string(), "refused 15 1"),
+            (format!("print {z} 48"), "refused 12 0"),
+            (format!("print {z}00 0"), "refused 3 0"),
+            ("print - 0".to_string(), "refused 1 0"),
+        ] {
+            assert_eq!(answers(&[&line]), [answer], "{line}");
+        }
+    }
+
+    #[test]
+    fn lines_of_texts_are_strict() {
+        let text = words::to_hex(Z_TEXT.as_bytes());
+        for line in [
+            "write".to_string(),
+            format!("write {text}"),
+            format!("write {text} 52 52"),
+            format!("write {text} 65536"),
+            format!("write {text} 000052"),
+            format!("write {text} -"),
+            format!("write {text} 3a"),
+            format!("write {text}0 52"),
+            format!("write {}A 52", &text[1..]),
+            format!("write  {text} 52"),
+            format!("write 52 {text}"),
+            format!("prints {text} 52"),
+            "print -".to_string(),
+        ] {
+            assert_eq!(answers(&[&line]), [UNREADABLE], "{line}");
+        }
+        let long = |zeros: usize| format!("write {} 0", "30".repeat(zeros));
+        // two of 65,536 bytes, and one of 65,537
+        assert_eq!(answers(&[&long(32_764)]), ["refused 15 1"]);
+        assert_eq!(answers(&[&format!("{}00", long(32_763))]), ["refused 15 1"]);
+        assert_eq!(answers(&[&format!("{}0", long(32_764))]), [UNREADABLE]);
+    }
+
+    #[test]
+    fn texts_leave_the_image_and_its_layout() {
+        let image = words::to_hex(&Z);
+        let write = format!("write {} 52", words::to_hex(Z_TEXT.as_bytes()));
+        let print = format!("print {image} 49");
+        let image = format!("image {image}");
+        let got = answers(&[&image, "p 0 0", "t", &write, "t", &print, "write - 0", "t"]);
+        assert_eq!(got[4], "codes - | acted - | decided -");
+        assert_eq!(got[7], "codes e0 | acted - | decided hold 0 0");
+        assert_eq!(answers(&[&write, "t"])[1], "refused 1 0");
     }
 }

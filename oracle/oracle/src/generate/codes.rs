@@ -4,6 +4,7 @@
 //! Assumes: lists of more than 64 codes are not of interest, a layout has no more states.
 
 use super::kind::Kind;
+use super::page::miswritten;
 use crate::paper::report::is_legal;
 use crate::random::Random;
 use crate::script::Script;
@@ -262,26 +263,9 @@ fn unreadable_lines(random: &mut Random) -> Vec<Vec<u8>> {
     lines
 }
 
-/// A readable line with one byte changed, added or taken away: nearly always one that cannot be read.
 fn unreadable_line(random: &mut Random) -> Vec<u8> {
-    let mut bytes = line(&legal_list(random));
-    let place = random.below(bytes.len());
-    let odd = match random.below(6) {
-        0 => b' ',
-        1 => b'\r',
-        2 => 0,
-        3 => random.among(b'A'.into(), b'Z'.into()) as u8,
-        4 => random.among(0x80, 0xFF) as u8,
-        _ => random.among(0x0B, 0x7F) as u8,
-    };
-    match random.below(3) {
-        0 => bytes[place] = odd,
-        1 => bytes.insert(place, odd),
-        _ => {
-            bytes.remove(place);
-        }
-    }
-    bytes
+    let list = legal_list(random);
+    miswritten(random, line(&list))
 }
 
 #[cfg(test)]

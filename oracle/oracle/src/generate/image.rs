@@ -168,8 +168,9 @@ fn unreadable_lines() -> Vec<Vec<u8>> {
     lines
 }
 
-fn random_image(random: &mut Random, reach: Reach) -> Vec<u8> {
-    match sort(random) {
+/// An image of any sort.
+pub fn random_image(random: &mut Random, reach: Reach) -> Vec<u8> {
+    match random.by_share(&SHARES) {
         Sort::Accepted => accepted(random, reach).bytes(),
         Sort::Refused(number) => spoil::refused(random, reach, &[number]),
         Sort::Pair => {
@@ -181,18 +182,6 @@ fn random_image(random: &mut Random, reach: Reach) -> Vec<u8> {
         Sort::CutOrContinued => spoil::cut_or_continued(random, reach),
         Sort::Wild => spoil::wild(random),
     }
-}
-
-fn sort(random: &mut Random) -> Sort {
-    let all = SHARES.iter().map(|(_, share)| share).sum();
-    let mut at = random.below(all);
-    for (sort, share) in SHARES {
-        if at < share {
-            return sort;
-        }
-        at -= share;
-    }
-    unreachable!("the shares sum up to all of them")
 }
 
 /// Two refusals, mostly of cells and records, among which the order of places shows.

@@ -22,6 +22,7 @@ mod pen;
 mod spoil;
 mod states;
 mod tally;
+mod texts;
 mod weights;
 
 use crate::script::Script;
@@ -34,6 +35,7 @@ pub fn scripts(kind: &str, n: usize, seed: u64) -> Option<Box<dyn Kind>> {
         "codes" => Some(Box::new(codes::Codes::new(n, seed))),
         "image" => Some(Box::new(image::Images::new(n, seed))),
         "areas" => Some(Box::new(areas::Pairs::new(n, seed))),
+        "texts" => Some(Box::new(texts::Texts::new(n, seed))),
         "debounce" => Some(Box::new(debounce::Scans::new(n, seed))),
         "keyboard" => Some(Box::new(keyboard::Calls::new(n, seed))),
         "layout" => Some(Box::new(layout::Traces::new(n, seed))),
@@ -48,6 +50,7 @@ pub fn sample(kind: &str, count: usize, seed: u64) -> Option<Script> {
         "codes" => Some(codes::sample(count, seed)),
         "image" => Some(image::sample(count, seed)),
         "areas" => Some(areas::sample(count, seed)),
+        "texts" => Some(texts::sample(count, seed)),
         "debounce" => Some(debounce::sample(count, seed)),
         "keyboard" => Some(keyboard::sample(count, seed)),
         "layout" => Some(layout::sample(count, seed)),

@@ -1,7 +1,8 @@
-//! The lines of a script while it is written, and when there are enough of them.
+//! The lines of a script while it is written, and when there are enough of them; and a line that is written wrong.
 //!
 //! Assumes: no line holds a newline.
 
+use crate::random::Random;
 use crate::script::Script;
 
 /// How many bytes of long lines a script has, about.
@@ -42,4 +43,25 @@ pub fn fill(left: &mut usize, mut make: impl FnMut() -> Vec<u8>) -> Option<Scrip
         *left -= 1;
     }
     page.script().if_any()
+}
+
+/// A readable line with one byte changed, added or taken away: nearly always one that cannot be read.
+pub fn miswritten(random: &mut Random, mut line: Vec<u8>) -> Vec<u8> {
+    let place = random.below(line.len());
+    let odd = match random.below(6) {
+        0 => b' ',
+        1 => b'\r',
+        2 => 0,
+        3 => random.among(b'A'.into(), b'Z'.into()) as u8,
+        4 => random.among(0x80, 0xFF) as u8,
+        _ => random.among(0x0B, 0x7F) as u8,
+    };
+    match random.below(3) {
+        0 => line[place] = odd,
+        1 => line.insert(place, odd),
+        _ => {
+            line.remove(place);
+        }
+    }
+    line
 }

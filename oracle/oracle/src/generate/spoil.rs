@@ -98,7 +98,7 @@ fn with_bad_word(mut bytes: Vec<u8>, random: &mut Random) -> Vec<u8> {
 }
 
 /// Makes one count 0 or one past its limit, with offsets and length that agree with it.
-fn leave_limits(draft: &mut Draft, random: &mut Random) {
+pub fn leave_limits(draft: &mut Draft, random: &mut Random) {
     match random.below(9) {
         0 => draft.layers = 0,
         1 => draft.rows = 0,

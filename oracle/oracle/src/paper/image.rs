@@ -14,7 +14,7 @@ const HEADER_BYTES: usize = 16;
 const HEAVIEST: u64 = 64;
 
 const SHORT: u8 = 1;
-const HEADER: u8 = 2;
+pub const HEADER: u8 = 2;
 pub const LENGTH: u8 = 3;
 const CELL: u8 = 4;
 const RECORD: u8 = 5;

@@ -1,4 +1,4 @@
-//! Second opinions, written from document 01 and nothing else: they answer where the Rust cannot, and
+//! Second opinions, written from documents 01 and 02 and nothing else: they answer where the Rust cannot, and
 //! where it can they are held to it, by the tests or at every line.
 
 pub mod areas;
@@ -10,8 +10,9 @@ pub mod layout;
 pub mod marks;
 pub mod report;
 pub mod state;
+pub mod text;
 pub mod times;
 
-/// The refusals that calls on a debouncer and on a layout share.
+/// The refusals that calls on a debouncer and on a layout share; the first is of the writer and the printer too.
 pub const ROOM: u8 = 12;
 pub const STATE: u8 = 13;
