@@ -9,6 +9,7 @@ pub mod Decimal
 pub mod PlainText
 pub mod TextRows
 pub mod WordBytes
+pub mod Shaped
 pub mod ImageRows
 pub mod LineRead
 pub mod TextRead
@@ -16,3 +17,6 @@ pub mod Built
 pub mod Written
 pub mod RoundTrip
 pub mod Unique
+pub mod OwnNumbers
+pub mod Longest
+pub mod Cases

@@ -2,9 +2,9 @@
 -- Assumes nothing.
 use Prim.Native.Nat.{ℕ, _<_, _≤_}
 use mathlib.Core.Bool.{true}
-use mathlib.Core.List.{List, [], _++_}
-use mathlib.Core.Path.{_≡_, refl, sym, ap, _∙_}
-use lib.ListN.{length, take, drop, getD}
+use mathlib.Core.List.{List}
+use mathlib.Core.Path.{_≡_, refl, ap, _∙_}
+use lib.ListN.{length, drop, getD}
 use lib.Seq.{take-append-seam}
 use lib.Dec.{leb}
 use borrow.Author.Tests.{leb-true}
@@ -16,15 +16,14 @@ use Rattle.refusal.specs.declared.Verdict.{Verdict}
 use Rattle.refusal.specs.declared.Verdict.the-variants.{Fine, Refused}
 use Rattle.refusal.proofs.Verdicts.{rule-fine, or-fine}
 use Rattle.table_text.specs.Made.{Reply, replyOf}
-use Rattle.table_text.specs.Print.{rowsIn, textFrom, textOf, printVerdict, printReply}
-use Rattle.table_text.specs.Write.{shapeFrom, countsIn, textFault, imageFrom, imageOf, writeVerdict, writeReply}
+use Rattle.table_text.specs.Print.{rowsIn, textOf, printVerdict, printReply}
+use Rattle.table_text.specs.Write.{countsIn, textFault, imageOf, writeVerdict, writeReply}
 use Rattle.table_text.specs.Plain.{plain}
-use Rattle.table_text.specs.RoundTrip.{result, Makes, PrintThenWrite, WriteThenPrint}
+use Rattle.table_text.specs.RoundTrip.{Makes, PrintThenWrite, WriteThenPrint}
 use Rattle.table_text.specs.Inside.{checkedReply}
 use Rattle.table_text.specs.declared.Made.the-variants.{Bytes}
-use Rattle.table_text.proofs.Checks.{within, within-laid}
+use Rattle.table_text.proofs.Checks.{within-laid}
 use Rattle.table_text.proofs.ImageRows.{image-counts, first-shape, rows-shaped, rows-words, image-again, rows-again}
-use Rattle.table_text.proofs.Rows.{flat}
 use Rattle.table_text.proofs.TextRows.{rowsOfText, text-shaped, text-counts, text-numbers, text-plain, rows-fit, rows-counts, rows-numbers}
 use Rattle.table_text.proofs.Written.{write-image}
 

@@ -21,7 +21,3 @@ shaped s i (row ∷ rows) = asks s i (length row) && shaped s (i + 1) rows
 -- every number is a word
 unfoldable pub small : List (List ℕ) → Bool
 small rows = every (every (λ n. leb n 65535)) rows
-
--- every row has a number
-unfoldable pub filled : List (List ℕ) → Bool
-filled rows = every (λ row. ltb 0 (length row)) rows

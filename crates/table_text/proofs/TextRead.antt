@@ -1,11 +1,10 @@
 -- Laws of a text that is read line by line. Assumes nothing.
 use Prim.Native.Nat.{ℕ, suc, _+_, _*_, _<_, _≤_}
-use mathlib.Core.Bool.{Bool, true, false}
+use mathlib.Core.Bool.{true, false}
 use mathlib.Core.List.{List, [], _∷_, _++_, append-assoc, append-nil}
 use mathlib.Core.Path.{_≡_, refl, sym, ap, _∙_}
 use native.Mathlib.Omega.{arith}
 use borrow.Author.Tests.{ne-eqb, le-ltb, lt-ltb}
-use lib.Dec.{eqb, ltb}
 use lib.ListN.{length, length-append, length-take, take, drop, getD}
 use lib.Seq.{sets, sets-eq}
 use Rattle.bytes.specs.Bytes.{indexOf}

@@ -16,7 +16,7 @@ use Rattle.refusal.specs.Verdict.{rule}
 use Rattle.refusal.specs.declared.Refusal.the-variants.{Text}
 use Rattle.refusal.specs.declared.Verdict.the-variants.{Fine}
 use Rattle.table_text.proofs.Parts.{parts-cut, parts-some}
-use Rattle.table_text.proofs.PlainText.{plain-past, joined, joined-parts, line-plain, line-small, written, line-written, written-free, row-back}
+use Rattle.table_text.proofs.PlainText.{plain-past, joined, joined-parts, line-plain, written, line-written, written-free, row-back}
 use Rattle.table_text.proofs.Rows.{flat, shaped, small}
 use Rattle.table_text.specs.Lines.{parts, single, Row, Numbers, Unfit, rowOf, numbersIn, numbersOf}
 use Rattle.table_text.specs.Plain.{plain, unzeroed}
@@ -68,14 +68,6 @@ parts-shaped s i p (q ∷ ps) e =
     let h = line-fits s i p q ps e in
     rw (h .1) (parts-shaped s (i + 1) q ps (h .2))
 
-pub parts-small : (s : Shape) (i : ℕ) (p : List ℕ) (ps : List (List ℕ)) → linesFault s i (p ∷ ps) ≡ Fine
-    → small (rowsOfParts (p ∷ ps)) ≡ true
-unfolding rowsOfParts small every
-parts-small s i p [] e = refl
-parts-small s i p (q ∷ ps) e =
-    let h = line-fits s i p q ps e in
-    rw (line-small p (numbersIn (rowOf p)) (h .0)) (parts-small s (i + 1) q ps (h .2))
-
 pub parts-numbers : (s : Shape) (i : ℕ) (p : List ℕ) (ps : List (List ℕ)) → linesFault s i (p ∷ ps) ≡ Fine
     → numbersOf (p ∷ ps) ≡ flat (rowsOfParts (p ∷ ps))
 unfolding rowsOfParts numbersOf flat rowOf numbersIn
@@ -118,10 +110,6 @@ module _ (text : List ℕ) (fine : textFault text ≡ Fine) where
   pub text-shaped : shaped (countsIn text) 1 (rowsOfText text) ≡ true
   unfolding rowsOfText
   text-shaped = rw (parts-some 10 text) (parts-shaped (countsIn text) 1 _ _ fine-parts)
-
-  pub text-small : small (rowsOfText text) ≡ true
-  unfolding rowsOfText
-  text-small = rw (parts-some 10 text) (parts-small (countsIn text) 1 _ _ fine-parts)
 
   pub text-counts : countsIn text ≡ shapeFrom (getD (rowsOfText text) 0 [])
   unfolding rowsOfText countsIn

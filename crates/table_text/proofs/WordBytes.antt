@@ -5,12 +5,11 @@ use mathlib.Core.List.{List, [], _∷_, _++_}
 use mathlib.Core.Path.{_≡_, refl, sym, ap, _∙_}
 use native.Mathlib.Nat.{add-assoc, add-zero, zero-add}
 use native.Mathlib.Omega.{arith}
-use borrow.Author.Tests.{leb-true, le-leb}
+use borrow.Author.Tests.{le-leb}
 use lib.Dec.{leb}
 use lib.ListN.{length, getD, drop}
 use lib.Seq.{drop-at, getD-drop}
 use Rattle.lists.specs.Lists.{every}
-use Rattle.lists.proofs.Laws.{every-head}
 use Rattle.image.specs.Words.{wordAt, wordsFrom}
 use Rattle.table_text.specs.Write.{bytesOf}
 
@@ -84,11 +83,3 @@ pub words-small : (img : List ℕ) (at n : ℕ) → ((i : ℕ) → getD img i 0 
 unfolding every wordsFrom wordAt
 words-small img at zero b = refl
 words-small img at (suc n) b = rw (le-leb (wordAt img at) 65535 (omega (arith, b at, b (at + 1)))) (words-small img (at + 2) n b)
-
--- bytes of words are bytes
-pub bytes-small : (ws : List ℕ) → every (λ n. leb n 65535) ws ≡ true → (i : ℕ) → getD (bytesOf ws) i 0 < 256
-unfolding bytesOf
-bytes-small [] e i = omega arith
-bytes-small (w ∷ ws) e zero = omega arith
-bytes-small (w ∷ ws) e (suc zero) = omega (arith, leb-true w 65535 (every-head (λ n. leb n 65535) w ws e .0))
-bytes-small (w ∷ ws) e (suc (suc i)) = bytes-small ws (every-head (λ n. leb n 65535) w ws e .1) i

@@ -1,5 +1,5 @@
 -- What `write` replies, by where the text or its image is at fault, and the image that is built of a text. Assumes nothing.
-use Prim.Native.Nat.{ℕ, _+_, _*_, _≤_}
+use Prim.Native.Nat.{ℕ, _+_, _*_}
 use mathlib.Core.Bool.{Bool, true, false}
 use mathlib.Core.List.{List, [], _∷_}
 use mathlib.Core.Path.{_≡_, refl, sym, ap, _∙_}
@@ -14,13 +14,14 @@ use Rattle.refusal.specs.declared.Refusal.the-variants.{Header, Text}
 use Rattle.refusal.specs.declared.Verdict.{Verdict}
 use Rattle.refusal.specs.declared.Verdict.the-variants.{Fine, Refused}
 use Rattle.table_text.specs.Lines.{parts, rowOf, numbersIn, numbersOf}
-use Rattle.table_text.specs.Made.{Reply, replyOf}
-use Rattle.table_text.specs.Write.{shapeFrom, fitsAt, linesAsked, linesFault, countsIn, textFault, bytesOf, imageFrom, imageOf, writeVerdict, writeReply}
+use Rattle.table_text.specs.Made.{replyOf}
+use Rattle.table_text.specs.Write.{fitsAt, linesFault, countsIn, textFault, bytesOf, imageFrom, imageOf, writeVerdict, writeReply}
 use Rattle.table_text.specs.Inside.{Small, judgedOf, headedOf, checkedReply}
 use Rattle.table_text.specs.declared.Made.the-variants as made
 use Rattle.table_text.specs.declared.read.Judged.the-variants as judged
 use Rattle.table_text.proofs.Built.{small, built}
-use Rattle.table_text.proofs.ImageRows.{Split, split, made-length}
+use Rattle.table_text.proofs.ImageRows.{made-length}
+use Rattle.table_text.proofs.Shaped.{split}
 use Rattle.table_text.proofs.Parts.{parts-some}
 use Rattle.table_text.proofs.TextRows.{rowsOfText, rowsOfParts, parts-first, fine-parts, text-shaped, text-counts, text-numbers}
 use Rattle.table_text.proofs.WordBytes.{bytes-length}

@@ -105,4 +105,5 @@ pub record Small (s : Shape) : Type 0 where
 
 -- an image that is built, with its version and its offsets
 unfoldable pub headedOf : Shape → List ℕ → List ℕ
-headedOf s image = sets (sets (sets image 0 (bytesOf (1 ∷ []))) 12 (bytesOf (s .«records_at» ∷ []))) 14 (bytesOf (s .«list_at» ∷ []))
+headedOf s image =
+    sets (sets (sets image 0 (bytesOf (1 ∷ []))) 12 (bytesOf (s .«records_at» ∷ []))) 14 (bytesOf (s .«list_at» ∷ []))

@@ -5,3 +5,6 @@ pub mod Print
 pub mod Plain
 pub mod RoundTrip
 pub mod Inside
+pub mod OwnNumbers
+pub mod Longest
+pub mod Cases

@@ -1,7 +1,7 @@
 -- The image of a text: document 02, W-201. The text is judged whole, then the image, then the room.
 -- Assumes nothing.
 use Prim.Native.Nat.{ℕ, _+_, _*_, _/_, _%_}
-use mathlib.Core.Bool.{Bool, true, false, cond, _&&_}
+use mathlib.Core.Bool.{Bool, false, cond, _&&_}
 use mathlib.Core.List.{List, [], _∷_}
 use lib.Dec.{eqb, leb, ltb}
 use lib.ListN.{length, getD, drop}
@@ -46,13 +46,13 @@ fitsAt s i (Numbers ns) = asks s i (length ns)
 fitsAt s i Unfit = false
 
 -- 15 Text, with the first line that does not fit, is missing or is left over: of a text parted at its newlines, from line i on.
--- The last part is not closed. It is no line where it is empty, and no line may then be missing
+-- The last part, which there always is, is not closed. It is no line where it is empty, and no line may then be missing
 unfoldable pub linesFault : Shape → ℕ → List (List ℕ) → Verdict
 linesFault s i [] = Fine
 linesFault s i (part ∷ []) = rule (eqb (length part) 0 && ltb (linesAsked s) i) Text i Fine
 linesFault s i (line ∷ (next ∷ more)) = rule (fitsAt s i (rowOf line)) Text i (linesFault s (i + 1) (next ∷ more))
 
--- the counts of a text, on its first line
+-- the counts of a text, on its first line; where that does not fit, nothing hangs on them
 unfoldable pub countsIn : List ℕ → Shape
 countsIn text = shapeFrom (numbersIn (rowOf (getD (parts 10 text) 0 [])))
 
@@ -64,7 +64,7 @@ unfoldable pub bytesOf : List ℕ → List ℕ
 bytesOf [] = []
 bytesOf (w ∷ ws) = (w % 256) ∷ (w / 256) ∷ bytesOf ws
 
--- the header, and behind it every number in its order
+-- the header, and behind it every number in its order. Of counts that are not legal an offset may be no word, and no image is made
 unfoldable pub imageFrom : Shape → List ℕ → List ℕ
 imageFrom s numbers =
     bytesOf

@@ -1,9 +1,9 @@
 -- `table_text::hand_over` meets its contract. Assumes nothing.
-use mathlib.Core.Path.{_≡_, sym, ap, _∙_}
+use mathlib.Core.Path.{sym, ap, _∙_}
 use mathlib.Core.List.{_++_}
 use borrow.Author.Needs.{needs}
 use denote.Ref.{now}
-use lib.ListN.{length, take, drop}
+use lib.ListN.{length, drop}
 use lib.Seq.{take-length}
 use Rattle.image.proofs.Said.{said-one}
 use Rattle.table_text.specs.Inside.{checkedReply}

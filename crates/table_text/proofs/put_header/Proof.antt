@@ -1,5 +1,4 @@
 -- `table_text::put_header` meets its contract. Assumes nothing.
-use Prim.Native.Nat.{_*_}
 use mathlib.Core.List.{[], _∷_}
 use mathlib.Core.Path.{_≡_, refl, ap, _∙_}
 use borrow.Author.Needs.{needs}

@@ -1,6 +1,6 @@
 -- `table_text::lay::lay_number` meets its contract: four places, each a digit at most, the last digit and the byte behind it.
 -- Assumes nothing.
-use Prim.Native.Nat.{_+_, _<_, _≤_}
+use Prim.Native.Nat.{_<_}
 use borrow.Author.Needs.{needs}
 use native.Mathlib.Omega.{arith}
 use Rattle.text.specs.Text.{decimalOf}

@@ -1,6 +1,6 @@
 -- `table_text::lines::past_spaces` meets its contract. The loop's invariant: the bytes from the first place on are spaces up to here.
 -- Assumes nothing.
-use Prim.Native.Nat.{_+_, _-_, _<_, _≤_}
+use Prim.Native.Nat.{_-_, _<_, _≤_}
 use mathlib.Core.Path.{_≡_, refl, sym, _∙_}
 use borrow.Author.Needs.{needs}
 use denote.Ref.{now}

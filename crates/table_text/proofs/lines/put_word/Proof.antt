@@ -1,11 +1,10 @@
 -- `table_text::lines::put_word` meets its contract. Assumes nothing.
 use Prim.Native.Nat.{_*_, _%_, suc, _≤_}
-use mathlib.Core.Path.{_≡_, refl, sym, _∙_}
+use mathlib.Core.Path.{refl, sym}
 use borrow.Author.Needs.{needs}
 use denote.Ref.{now}
 use native.Mathlib.Omega.{arith}
 use native.Mathlib.Numerals.{add-one}
-use lib.ListN.{length, length-set}
 use lib.Seq.{set-out}
 use Rattle.table_text.specs.Write.{bytesOf}
 use Rattle.table_text.proofs.lines.put_word.Statement.{statement}

@@ -2,12 +2,11 @@
 -- here on are left. Each number takes a byte and a space at least, so there are no more of them than places passed.
 -- Assumes nothing.
 use Prim.Native.Nat.{suc, _+_, _*_, _-_, _<_, _≤_}
-use mathlib.Core.Path.{_≡_, refl, sym, ap, _∙_}
+use mathlib.Core.Path.{_≡_, sym, ap, _∙_}
 use mathlib.Core.List.{[], _∷_}
 use borrow.Author.Needs.{needs}
 use denote.Ref.{now}
 use native.Mathlib.Omega.{arith}
-use native.Mathlib.Numerals.{add-one}
 use lib.ListN.{length, length-drop, take, drop, drop-of-length-le}
 use lib.Seq.{drop-drop, length-sets}
 use Rattle.bytes.specs.Bytes.{indexOf}

@@ -1,7 +1,7 @@
 -- `table_text::read::read_lines` meets its contract. The loop's invariant: so many lines are read and fit, their numbers are laid, and
 -- the text from here on is left. A line takes a byte at least, and so does a number. Assumes nothing.
 use Prim.Native.Nat.{suc, _+_, _*_, _-_, _<_, _≤_}
-use mathlib.Core.Path.{_≡_, refl, sym, ap, _∙_}
+use mathlib.Core.Path.{_≡_, sym, ap, _∙_}
 use borrow.Author.Needs.{needs}
 use borrow.Author.Tests.{not-true, not-false}
 use denote.Ref.{now}

@@ -1,8 +1,8 @@
 -- `table_text::read::read_text` meets its contract: the first line has the counts, and the others are judged by them. Assumes nothing.
-use Prim.Native.Nat.{suc, _+_, _*_, _-_, _<_, _≤_}
-use mathlib.Core.Path.{_≡_, refl, sym, ap, _∙_}
+use Prim.Native.Nat.{suc, _+_, _-_, _<_}
+use mathlib.Core.Path.{_≡_, sym, ap, _∙_}
 use borrow.Author.Needs.{needs}
-use borrow.Author.Tests.{eq-eqb, ne-eqb}
+use borrow.Author.Tests.{ne-eqb}
 use denote.Ref.{now}
 use native.Mathlib.Omega.{arith}
 use lib.ListN.{length, length-take, take, drop}
@@ -15,7 +15,7 @@ use Rattle.table_text.specs.Inside.{countedOf, ReadsLines}
 use Rattle.table_text.specs.declared.lines.Counted.the-variants as counted
 use Rattle.table_text.proofs.Asked.{asks-first}
 use Rattle.table_text.proofs.LineRead.{found-at}
-use Rattle.table_text.proofs.TextRead.{counted-numbers, counted-unfit, fits-numbers, fits-unfit, text-open, text-line, text-next, text-fault, first-is, others-are, counts-are, five-words, text-read}
+use Rattle.table_text.proofs.TextRead.{counted-numbers, counted-unfit, fits-numbers, fits-unfit, text-open, text-line, text-fault, counts-are, five-words, text-read}
 use Rattle.table_text.proofs.read.read_text.Statement.{statement}
 use Rattle.table_text.proofs.read.read_text.Tie as tie
 
