@@ -3,6 +3,7 @@ use super::words;
 
 pub enum Command {
     Table(Table),
+    Texts(Texts),
     Buffer(Buffer),
     Call(Call),
     Part(Part),
@@ -16,6 +17,12 @@ pub enum Table {
     Codes,
     Image,
     Areas,
+}
+
+// A table's text into its image, and back.
+pub enum Texts {
+    Write,
+    Print,
 }
 
 // The lengths of the lent buffers.
@@ -107,6 +114,8 @@ fn of_rest(place: usize) -> Command {
         26 => Command::Board(Board::Idling),
         27 => Command::Board(Board::Clock),
         28 => Command::Board(Board::Descriptor),
+        29 => Command::Texts(Texts::Write),
+        30 => Command::Texts(Texts::Print),
         _ => Command::Unread,
     }
 }
@@ -142,7 +151,7 @@ fn next(forms: &[u8], at: usize) -> usize {
 fn find(line: &[u8], forms: &[u8]) -> Asked {
     let mut at = 0;
     let mut place = 0;
-    while place < 29 {
+    while place < 31 {
         let of = fit(line, forms, at);
         if of[0] == 0 {
             return Asked {
@@ -167,6 +176,7 @@ pub fn read(line: &[u8]) -> Asked {
           p bb r bb t  k  \
           default n counts nn state sKbbb state sLnbb queue qPbbn queue qRbbn wait bbnn idle  \
           debounce nnn- debouncer nnnn-- scan - update - picture  \
-          report - get bb set bb- rate b idling bn clock n descriptor ",
+          report - get bb set bb- rate b idling bn clock n descriptor  \
+          write -n print -n",
     )
 }

@@ -8,6 +8,7 @@ mod commands;
 mod parts;
 mod say;
 mod table;
+mod texts;
 mod words;
 
 use commands::Board;
@@ -17,6 +18,7 @@ use commands::Call;
 use commands::Command;
 use commands::Part;
 use commands::Table;
+use commands::Texts;
 use console::advance;
 use console::write_line;
 use debounce::Debouncer;
@@ -30,7 +32,7 @@ use words::Bytes;
 // How much one read brings, and the longest line.
 const INPUT: usize = 65536;
 
-const LINE: usize = 32768;
+const LINE: usize = 65536;
 
 // What the script has made so far: how many bytes the code buffer and the event buffer have, and the image; the layout, the
 // debouncer and the keyboard.
@@ -43,7 +45,7 @@ struct Desk {
     keyboard: Keyboard,
 }
 
-// A line's answer, and what it leaves.
+// A line's answer, or the end of one whose beginning is written (texts.rt); and what it leaves.
 struct Done {
     desk: Desk,
     text: Text,
@@ -162,6 +164,10 @@ fn answer(line: &[u8], table: &mut [u8; table::ROOM], desk: Desk) -> Done {
     let command = asked.command;
     match command {
         Command::Table(asked) => on_table(asked, line, table, desk),
+        Command::Texts(asked) => Done {
+            desk,
+            text: texts::answer(asked, words::hex_at(line, 1), words::low_word(of[2])),
+        },
         Command::Buffer(asked) => on_buffer(asked, of[1], line, desk),
         Command::Call(call) => on_call(call, of, table, desk),
         Command::Part(part) => on_part(part, of, line, desk),

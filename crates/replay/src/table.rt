@@ -7,8 +7,8 @@ use image::Source;
 use text::Text;
 use text::front;
 
-// The bytes of the image that stands: the largest has fewer than half of this.
-pub const ROOM: usize = 16384;
+// The bytes of the image that stands: a line has room for fewer, so that it stands whole, legal or not.
+pub const ROOM: usize = 32768;
 
 // `codes HEX`: the report of these codes.
 pub fn codes(bytes: Bytes) -> Text {

@@ -6,7 +6,8 @@ ghost use Prim.Native.Nat.{_≤_};
 ghost use mathlib.Core.Path.{_≡_};
 ghost use lib.ListN.{length};
 
-// What a word of hex or a picture says.
+// What a word of hex or a picture says. A line has fewer bytes in hex than fit here. It may have a longer picture, of
+// which the first digits stand here: that is refused as the whole one is, for its length.
 pub struct Bytes {
     pub read: bool,
     pub len: usize,
@@ -153,20 +154,28 @@ fn read_hex(word: &[u8]) -> Bytes {
     }
 }
 
+// Whether every byte is a decimal digit.
+fn are_decimal(word: &[u8]) -> bool {
+    let mut i = 0;
+    while i < word.len() {
+        if 9 < digit(word[i]) {
+            return false;
+        }
+        i += 1;
+    }
+    true
+}
+
 // A decimal digit a byte.
 fn read_picture(word: &[u8]) -> Bytes {
     let mut bytes = [0u8; 32768];
     let mut i = 0;
     while i < 32768 && i < word.len() {
-        let d = digit(word[i]);
-        if 9 < d {
-            return no_bytes(false);
-        }
-        bytes[i] = d;
+        bytes[i] = digit(word[i]);
         i += 1;
     }
     Bytes {
-        read: 0 < i,
+        read: 0 < i && are_decimal(word),
         len: i,
         bytes,
     }
