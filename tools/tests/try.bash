@@ -53,6 +53,17 @@ also() {
     "$@" || wrong "it is not so: $*"
 }
 
+# image LAYERS ROWS COLUMNS RECORDS ENTRIES NUMBERS..: the bytes of a table image, legal or not, of the numbers of its text.
+image() {
+    local word octal bytes='' records_at=$((16 + 2 * $1 * $2 * $3))
+    for word in 1 "${@:1:5}" "$records_at" $((records_at + 8 * $4)) "${@:6}"; do
+        printf -v octal '\\%03o\\%03o' $((word % 256)) $((word / 256))
+        bytes+=$octal
+    done
+    # shellcheck disable=SC2059 # all of it is escapes
+    printf "$bytes"
+}
+
 # The closing line of a script.
 closing() {
     echo "${0##*/}: $tried tried, each as it should be${left_out:+ (left out: $left_out)}"
