@@ -35,7 +35,7 @@ pub fn scripts(kind: &str, n: usize, seed: u64) -> Option<Box<dyn Kind>> {
         "codes" => Some(Box::new(codes::Codes::new(n, seed))),
         "image" => Some(Box::new(image::Images::new(n, seed))),
         "areas" => Some(Box::new(areas::Pairs::new(n, seed))),
-        "texts" => Some(Box::new(texts::Texts::new(n, seed))),
+        "texts" => Some(Box::new(texts::Texts::new(n / texts::SHARE, seed))),
         "debounce" => Some(Box::new(debounce::Scans::new(n, seed))),
         "keyboard" => Some(Box::new(keyboard::Calls::new(n, seed))),
         "layout" => Some(Box::new(layout::Traces::new(n, seed))),

@@ -53,6 +53,9 @@ impl Side {
     }
 }
 
+/// A text is long beside the lines of other kinds, so there are N / 4 of them.
+pub const SHARE: usize = 4;
+
 pub struct Texts {
     random: Random,
     /// How many random cases are still to be run.
