@@ -19,4 +19,3 @@ pub mod RoundTrip
 pub mod Unique
 pub mod OwnNumbers
 pub mod Longest
-pub mod Cases

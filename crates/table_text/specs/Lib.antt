@@ -7,4 +7,3 @@ pub mod RoundTrip
 pub mod Inside
 pub mod OwnNumbers
 pub mod Longest
-pub mod Cases

@@ -1,6 +1,7 @@
 // A table as a text, and back: document 02, W-201. `write` makes the image of a text and checks it; `print` makes the text of an
 // image. Both answer every input: how many bytes were made, which stand in the lent buffer, or the first refusal, with the
-// buffer as it was.
+// buffer as it was. A `usize` has 64 bits here, as on the clerk's machine: counts as they stand, up to 65,535 each, make offsets
+// past 32.
 // Assumes nothing.
 mod lay;
 mod lines;

@@ -14,6 +14,7 @@ ghost use Rattle.table_text.specs.Inside.{PassesSpaces, ReadsLine};
 // The largest image whose header keeps its rules: 16 + 2 * 8 * 8 * 16 + 8 * 256 + 2 * 1024 bytes.
 pub(crate) const LARGEST: usize = 6160;
 
+// Its words.
 const WORDS: usize = 3080;
 
 // How many numbers a line has; or one of its words is no number.
