@@ -53,8 +53,8 @@ impl Side {
     }
 }
 
-/// A text is long beside the lines of other kinds, so there are N / 4 of them.
-pub const SHARE: usize = 4;
+/// A text is long beside the lines of other kinds, so there are N / 8 of them.
+pub const SHARE: usize = 8;
 
 pub struct Texts {
     random: Random,
