@@ -4,7 +4,7 @@ use mathlib.Core.Bool.{Bool, true, false, cond, not, _&&_, and-false}
 use mathlib.Core.List.{List, [], _∷_, _++_, append-assoc, append-nil}
 use mathlib.Core.Path.{_≡_, refl, sym, ap, _∙_}
 use native.Mathlib.Omega.{arith}
-use borrow.Author.Tests.{ne-eqb, eqb-true, leb-true, le-leb}
+use borrow.Author.Tests.{ne-eqb, eqb-true, leb-true}
 use lib.Dec.{eqb, leb}
 use lib.ListN.{length, drop, getD, length-append}
 use Rattle.lists.proofs.Laws.{every-head}
@@ -13,7 +13,7 @@ use Rattle.number.specs.Number.{isDigit, readDecimal}
 use Rattle.number.specs.declared.Number.{Number}
 use Rattle.number.specs.declared.Number.the-variants.{Value, Unread}
 use Rattle.text.specs.Text.{decimalOf}
-use Rattle.table_text.proofs.Decimal.{decimal-some, decimal-no-space, decimal-no-newline, read-written, read-as, unzeroed-word}
+use Rattle.table_text.proofs.Decimal.{decimal-some, decimal-no-space, decimal-no-newline, read-written, unzeroed-word}
 use Rattle.table_text.proofs.Parts.{free, free-head, free-append, parts-cut, parts-none, parts-some, single-free, single-none, single-past}
 use Rattle.table_text.specs.Lines.{ahead, parts, startsWith, single, Row, Numbers, Unfit, before, readWords, rowOf}
 use Rattle.table_text.specs.Plain.{startsDigit, unzeroed, plain}
@@ -90,16 +90,6 @@ words-first w ws ns e = go (readDecimal w) (readWords ws) refl refl e
     go (Value n) Unfit p q r = let z : _≡_ {A = ℕ} 0 1 = cc in absurd (omega arith)
     go Unread row p q r = let z : _≡_ {A = ℕ} 0 1 = cc in absurd (omega arith)
 
--- each of their numbers is a word
-pub words-small : (ws : List (List ℕ)) (ns : List ℕ) → readWords ws ≡ Numbers ns → every (λ n. leb n 65535) ns ≡ true
-unfolding readWords every
-words-small [] ns e =
-    let q : ns ≡ [] = cc in
-    rw q
-words-small (w ∷ ws) ns e =
-    let (n, ms, q, r, more) = words-first w ws ns e in
-    rw (q, le-leb n 65535 (read-as w n r .small)) (words-small ws ms more)
-
 -- joined by spaces, and without leading zeros, they are the numbers' line
 pub words-plain : (w : List ℕ) (ws : List (List ℕ)) (ns : List ℕ) → readWords (w ∷ ws) ≡ Numbers ns
     → unzeroed false (joined 32 (w ∷ ws)) ++ 10 ∷ [] ≡ lineOf ns
@@ -127,13 +117,6 @@ line-plain [] ns e =
     let q : ns ≡ [] = cc in
     rw q
 line-plain (c ∷ cs) ns e = words-line (single (c ∷ cs)) ns e
-
-pub line-small : (line ns : List ℕ) → rowOf line ≡ Numbers ns → every (λ n. leb n 65535) ns ≡ true
-unfolding rowOf every
-line-small [] ns e =
-    let q : ns ≡ [] = cc in
-    rw q
-line-small (c ∷ cs) ns e = words-small (parts 32 (single (c ∷ cs))) ns e
 
 -- numbers written, without the newline
 unfoldable pub written : List ℕ → List ℕ
