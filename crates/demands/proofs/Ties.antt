@@ -5,6 +5,7 @@ use mathlib.Core.Path.{_≡_, refl, sym, ap, ap₂, subst, _∙_}
 use mathlib.Core.Bool.{true, false, cond, _&&_}
 use mathlib.Core.List.{List, [], _∷_, _++_, append-nil}
 use native.Mathlib.Omega.{arith}
+use native.Mathlib.Nat.{zero-add}
 use borrow.Author.Tests.{le-leb, lt-leb}
 use lib.Dec.{leb}
 use lib.ListN.{length}
@@ -107,14 +108,14 @@ module _ (t : Table) (l : Model) (d : Coord) (n : ℕ) (hold tap : Action) where
   unfolding run ticks call tick ticked aged
   waits-on zero left r q e = let z : left ≡ r = omega arith in ap (λ (x : ℕ). still (waits l d n hold tap (suc x) q)) z
   waits-on (suc m) zero r q e = absurd (omega arith)
-  waits-on (suc m) (suc left) r q e = rw (less (suc left)) (waits-on m left r (older q) (omega arith))
+  waits-on (suc m) (suc left) r q e = rw (less (suc left), zero-add) (waits-on m left r (older q) (omega arith))
 
   ends : closed hold ≡ true → (m : ℕ) (q : List Queued) → Ended d (aged (suc m) q) (run t (ticks (suc m)) (waits l d n hold tap (suc m) q))
   unfolding run ticks call tick ticked into decided decisions aged
   ends sh zero q =
       let y = kept hold (t .layers) d 0 (find d (older q)) (withWaiting Idle (waits l d n hold tap 0 (older q))) sh in
       record { queue = y .queue; idle = y .waiting; decided = rw (y .marks) }
-  ends sh (suc m) q = rw (less (suc m)) (ends sh m (older q))
+  ends sh (suc m) q = rw (less (suc m), zero-add) (ends sh m (older q))
 
   -- a press acted on at its first tick, with a delay of one
   begins-live : (k m : ℕ) → pressed t d (resting l) ≡ HoldTap n (suc (suc k)) hold tap

@@ -14,10 +14,10 @@ use lib.ListN.{length, take, set, getD, length-append, length-map, length-set}
 use lib.Seq.{length-take-le, take-suc, take-suc-set}
 use borrow.Author.Tests.{lt-ltb, le-ltb}
 use Rattle.event.specs.declared.Coord.{Coord}
-use Rattle.layout.specs.Model.{Queued, Model, Waiting, Idle, Begun, Decided, Done, still, marked, after, withBase, withStates, withWaiting}
+use Rattle.layout.specs.Model.{Queued, Model, Waiting, Idle, Begun, Decided, Done, still, lost, marked, after, withBase, withStates, withWaiting}
 use Rattle.layout.specs.Actions.{push}
 use Rattle.layout.specs.Packed.{pad, noSlot, statesIn, waitingOf, modelOf}
-use Rattle.layout.specs.Notes.{noted, notedMarks, noteDecision}
+use Rattle.layout.specs.Notes.{noted, notedMarks, noteDecision, noteDropped}
 use Rattle.layout.specs.Inside.{Tidy, Did}
 use Rattle.layout.specs.Effects.{stateOf, effectOf, effectIn, HasRoom, Effected, Grown}
 use Rattle.layout.specs.declared.active.State.{State}
@@ -32,7 +32,7 @@ use Rattle.layout.specs.declared.effect.Effect.{Effect}
 use Rattle.layout.specs.declared.effect.Progress.{Progress}
 use Rattle.layout.proofs.Pads.{held-more, take-pad, map-append}
 use Rattle.layout.proofs.Parts.{held-length}
-use Rattle.layout.proofs.Noted.{noted-append}
+use Rattle.layout.proofs.Noted.{noted-after}
 
 -- the numbers of states
 code-state : (c : Coord) (n : ℕ) → n < 256 → stateOf c n ≡ NormalKey n c
@@ -84,7 +84,7 @@ push-yes : (s : State) (l : Model) → length (l .states) < 64 → push s l ≡ 
 unfolding push
 push-yes s l h = rw (lt-ltb (length (l .states)) 64 h)
 
-push-no : (s : State) (l : Model) → 64 ≤ length (l .states) → push s l ≡ still l
+push-no : (s : State) (l : Model) → 64 ≤ length (l .states) → push s l ≡ lost l
 unfolding push
 push-no s l h = rw (le-ltb (length (l .states)) 64 h)
 
@@ -136,16 +136,16 @@ module _ (img : List ℕ) (c : Coord) where
         notes = λ s h q.
             let m = f (effectIn img c t a s q) in
             y .notes s (h ∙ sym (x .held)) q
-            ∙ ap (λ (l : Model). notedMarks (u .notes) (g l .marks)) (x .is s h q)
-            ∙ ap (λ (n : Notes). notedMarks n (g (m .layout) .marks)) (x .notes s h q)
-            ∙ sym (noted-append (t .notes) (m .marks) (g (m .layout) .marks));
+            ∙ ap (λ (l : Model). noted (u .notes) (g l)) (x .is s h q)
+            ∙ ap (λ (n : Notes). noted n (g (m .layout))) (x .notes s h q)
+            ∙ sym (noted-after (t .notes) m (g (m .layout)));
       }
 
   pub record Left (start now : Effect) (before here : List ℕ) (all rest : Model → Done) : Type 0 where
     pub held : now .held ≡ start .held
     pub roomy : HasRoom now here
     pub same : (s : List State) → length s ≡ start .held → (q : List Queued) → rest (effectIn img c now here s q) .layout ≡ all (effectIn img c start before s q) .layout
-    pub notes : (s : List State) → length s ≡ start .held → (q : List Queued) → notedMarks (now .notes) (rest (effectIn img c now here s q) .marks) ≡ notedMarks (start .notes) (all (effectIn img c start before s q) .marks)
+    pub notes : (s : List State) → length s ≡ start .held → (q : List Queued) → noted (now .notes) (rest (effectIn img c now here s q)) ≡ noted (start .notes) (all (effectIn img c start before s q))
 
   pub left-start : (t : Effect) (a : List ℕ) (f : Model → Done) → HasRoom t a → Left t t a a f f
   left-start t a f r = record { held = refl; roomy = r; same = λ s h q. refl; notes = λ s h q. refl }
@@ -159,9 +159,9 @@ module _ (img : List ℕ) (c : Coord) where
             ap (λ (m : Model). rest′ m .layout) (d .is s (h ∙ sym (w .held)) q) ∙ sym (ap (λ (r : Done). r .layout) (e (effectIn img c t a s q))) ∙ w .same s h q;
         notes = λ s h q.
             let m = f (effectIn img c t a s q) in
-            ap (λ (l : Model). notedMarks (u .notes) (rest′ l .marks)) (d .is s (h ∙ sym (w .held)) q)
-            ∙ ap (λ (n : Notes). notedMarks n (rest′ (m .layout) .marks)) (d .notes s (h ∙ sym (w .held)) q)
-            ∙ sym (noted-append (t .notes) (m .marks) (rest′ (m .layout) .marks))
+            ap (λ (l : Model). noted (u .notes) (rest′ l)) (d .is s (h ∙ sym (w .held)) q)
+            ∙ ap (λ (n : Notes). noted n (rest′ (m .layout))) (d .notes s (h ∙ sym (w .held)) q)
+            ∙ sym (noted-after (t .notes) m (rest′ (m .layout)))
             ∙ sym (ap (λ (r : Done). noted (t .notes) r) (e (effectIn img c t a s q)))
             ∙ w .notes s h q;
       }
@@ -196,14 +196,15 @@ module _ (img : List ℕ) (c : Coord) where
         notes = λ s h q. sym (ap (λ (x : Done). noted (t .notes) x) (yes s h q));
       }
 
-  pub push-full : (t : Effect) (a : List ℕ) (n : ℕ) → HasRoom t a → 64 ≤ t .held + t .added → Effected img c t t a a (push (stateOf c n))
+  pub push-full : (t : Effect) (a : List ℕ) (n : ℕ) → HasRoom t a → 64 ≤ t .held + t .added
+      → Effected img c t (record { «default_layer» = t .«default_layer»; held = t .held; added = t .added; waiting = t .waiting; notes = noteDropped (t .notes) 1 }) a a (push (stateOf c n))
   unfolding notedMarks
   push-full t a n r ge =
-      let no : (s : List State) → length s ≡ t .held → (q : List Queued) → push (stateOf c n) (effectIn img c t a s q) ≡ still (effectIn img c t a s q) =
+      let no : (s : List State) → length s ≡ t .held → (q : List Queued) → push (stateOf c n) (effectIn img c t a s q) ≡ lost (effectIn img c t a s q) =
       λ s h q. push-no (stateOf c n) (effectIn img c t a s q) (omega (arith, count t a s r h)) in
       record {
         held = refl;
-        roomy = r;
+        roomy = record { few = r .few; long = r .long };
         is = λ s h q. sym (ap (λ (x : Done). x .layout) (no s h q));
         notes = λ s h q. sym (ap (λ (x : Done). noted (t .notes) x) (no s h q));
       }

@@ -100,7 +100,7 @@ module _ (img : List ℕ) where
   push-lawful : (s : State) (l : Model) → legalState s ≡ true → Lawful img l → Lawful img (push s l .layout)
   unfolding push every
   push-lawful s l e w =
-      lawful-if (ltb (length (l .states)) 64) (still (withStates (l .states ++ (s ∷ [])) l)) (still l)
+      lawful-if (ltb (length (l .states)) 64) (still (withStates (l .states ++ (s ∷ [])) l)) _
       (λ h. record {
         few = simp length-append (omega (arith, ltb-true (length (l .states)) 64 h));
         short = w .short;

@@ -33,7 +33,7 @@ use Rattle.layout.specs.declared.action.Setting.{Setting}
 use Rattle.layout.specs.declared.effect.Effect.{Effect}
 use Rattle.layout.specs.declared.effect.Progress.{Progress}
 use Rattle.layout.specs.declared.layout.Layout.{Layout}
-use Rattle.layout.proofs.Noted.{noted-append}
+use Rattle.layout.proofs.Noted.{noted-after}
 use Rattle.layout.proofs.Effects.{did-effect}
 
 -- a call that began with no notes has come to its end by a step, with this queue
@@ -64,7 +64,7 @@ module _ (img : List ℕ) where
       record {
         tidy = r .tidy;
         is = r .is;
-        notes = r .notes ∙ ap (λ (n : Notes). noted n (g (x .layout))) (d .notes) ∙ sym (noted-append notes (x .marks) (g (x .layout) .marks));
+        notes = r .notes ∙ ap (λ (n : Notes). noted n (g (x .layout))) (d .notes) ∙ sym (noted-after notes x (g (x .layout)));
       }
 
   -- a call that began with no notes, and a queue that holds the list l

@@ -10,7 +10,7 @@ use Rattle.event.specs.declared.Coord.{Coord}
 use Rattle.event.specs.declared.Event.{Event}
 use Rattle.event.specs.declared.Event.the-variants.{Release, Press}
 use Rattle.image.specs.Tree.{Action, Actions, NoOp, Trans, KeyCode, MultipleKeyCodes, MultipleActions, Layer, DefaultLayer, HoldTap, end, _&_}
-use Rattle.layout.specs.Model.{Queued, Model, Idle, Waits, Begun, Decided, Done, ageOf, same, still, marked, after, withBase, withStates, withWaiting}
+use Rattle.layout.specs.Model.{Queued, Model, Idle, Waits, Begun, Decided, Done, ageOf, same, still, lost, marked, after, withBase, withStates, withWaiting}
 use Rattle.layout.specs.declared.active.State.{State}
 use Rattle.layout.specs.declared.active.State.the-variants.{NormalKey, LayerModifier}
 use Rattle.layout.specs.declared.notes.Way.{Way}
@@ -18,9 +18,9 @@ use Rattle.layout.specs.declared.notes.Way.the-variants.{Tap, Hold}
 use Rattle.layout.specs.declared.queue.Found.{Found}
 use Rattle.layout.specs.declared.queue.Found.the-variants.{None, At}
 
--- one state more, if there is room: Layout, first paragraph
+-- one state more, kept if there is room, else dropped: Layout, first paragraph; document 02, W-202
 unfoldable pub push : State → Model → Done
-push s l = cond (ltb (length (l .states)) 64) (still (withStates (l .states ++ (s ∷ [])) l)) (still l)
+push s l = cond (ltb (length (l .states)) 64) (still (withStates (l .states ++ (s ∷ [])) l)) (lost l)
 
 -- the codes of a MultipleKeyCodes, one after the other
 unfoldable pub pushCodes : List ℕ → Coord → Model → Done

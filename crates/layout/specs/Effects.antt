@@ -2,11 +2,11 @@
 -- layout that they stand for go together.
 -- Assumes nothing.
 use mathlib.Core.Path.{_≡_}
-use mathlib.Core.Bool.{true, cond}
+use mathlib.Core.Bool.{Bool, true, cond}
 use mathlib.Core.List.{List, _++_, map}
 use Prim.Native.Nat.{ℕ, _+_, _%_, _≤_}
 use lib.Dec.{ltb}
-use lib.ListN.{length, take}
+use lib.ListN.{length, take, set}
 use Rattle.lists.specs.Lists.{every}
 use Rattle.codes.specs.Codes.{legal}
 use Rattle.event.specs.declared.Coord.{Coord}
@@ -50,6 +50,11 @@ effectIn img c effect added s q =
 pub record HasRoom (effect : Effect) (added : List ℕ) : Type 0 where
   pub few : effect .held + effect .added ≤ 64
   pub long : length added ≡ 64
+
+-- a state is added where there is room, and whether it was kept
+abbrev pub Added : Effect → ℕ → Bool → List ℕ → List ℕ → Type 0
+Added effect number kept before after =
+    (kept ≡ ltb (effect .held + effect .added) 64) × (after ≡ cond kept (set before (effect .added) number) before)
 
 -- one effect comes from another by a step, whatever states were held and whatever is queued
 pub record Effected (img : List ℕ) (c : Coord) (start end : Effect) (before after : List ℕ) (step : Model → Done) : Type 0 where

@@ -1,6 +1,6 @@
 -- The layout as lists: document 01, Layout, and what a step of it leaves. The words are document 01's.
 -- Assumes nothing.
-use Prim.Native.Nat.{ℕ}
+use Prim.Native.Nat.{ℕ, _+_}
 use mathlib.Core.Bool.{Bool, _&&_}
 use mathlib.Core.List.{List, [], _∷_, _++_}
 use lib.Dec.{eqb}
@@ -37,10 +37,11 @@ pub data Mark : Type 0 where
   Begun : Coord → Mark
   Decided : Coord → Way → Mark
 
--- what a step leaves
+-- what a step leaves: the layout, the marks of what was done, and how many states were dropped (document 02, W-202)
 pub record Done : Type 0 where
   pub layout : Model
   pub marks : List Mark
+  pub dropped : ℕ
 
 -- a fresh layout
 abbrev pub fresh : Model
@@ -52,15 +53,19 @@ same c d = eqb (c .i) (d .i) && eqb (c .j) (d .j)
 
 -- nothing was done
 abbrev pub still : Model → Done
-still l = record { layout = l; marks = [] }
+still l = record { layout = l; marks = []; dropped = 0 }
+
+-- nothing was done, and a state was dropped
+abbrev pub lost : Model → Done
+lost l = record { layout = l; marks = []; dropped = 1 }
 
 -- a mark before those of a step
 abbrev pub marked : Mark → Done → Done
-marked m r = record { layout = r .layout; marks = m ∷ r .marks }
+marked m r = record { layout = r .layout; marks = m ∷ r .marks; dropped = r .dropped }
 
 -- one step, and what comes after it
 abbrev pub after : Done → Done → Done
-after r s = record { layout = s .layout; marks = r .marks ++ s .marks }
+after r s = record { layout = s .layout; marks = r .marks ++ s .marks; dropped = r .dropped + s .dropped }
 
 -- the layout with one part put in
 abbrev pub withBase : ℕ → Model → Model

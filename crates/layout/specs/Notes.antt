@@ -1,7 +1,7 @@
--- What the marks of a step come to in the notes of an answer: document 01, Layout, the last paragraph. The notes have a place
--- for each decision, by its position among those of the call.
+-- What a step comes to in the notes of an answer: its marks (document 01, Layout, the last paragraph) and how many states it
+-- dropped (document 02, W-202). The notes have a place for each decision, by its position among those of the call.
 -- Assumes nothing.
-use Prim.Native.Nat.{ℕ, zero, suc}
+use Prim.Native.Nat.{ℕ, zero, suc, _+_, min}
 use mathlib.Core.List.{List, [], _∷_, _++_}
 use Rattle.event.specs.declared.Coord.{Coord}
 use Rattle.event.specs.declared.Event.{Event}
@@ -13,18 +13,18 @@ use Rattle.layout.specs.declared.notes.Acted.{Acted as ActedOn}
 use Rattle.layout.specs.declared.notes.Acted.the-variants as acted
 use Rattle.layout.specs.declared.notes.Notes.{Notes}
 
--- no event acted on, no decision
+-- no event acted on, no decision, no state dropped
 abbrev pub noNotes : Notes
-noNotes = record { acted = acted.Nothing; made = 0; first = decision.Nothing; second = decision.Nothing }
+noNotes = record { acted = acted.Nothing; made = 0; first = decision.Nothing; second = decision.Nothing; dropped = 0 }
 
 -- an event is acted on
 abbrev pub noteActed : Notes → Event → Notes
-noteActed n e = record { acted = acted.On e; made = n .made; first = n .first; second = n .second }
+noteActed n e = record { acted = acted.On e; made = n .made; first = n .first; second = n .second; dropped = n .dropped }
 
 -- a decision behind so many; there is room for two
 abbrev pub decisionAt : ℕ → Decision → Notes → Notes
-decisionAt zero d n = record { acted = n .acted; made = 1; first = d; second = n .second }
-decisionAt (suc zero) d n = record { acted = n .acted; made = 2; first = n .first; second = d }
+decisionAt zero d n = record { acted = n .acted; made = 1; first = d; second = n .second; dropped = n .dropped }
+decisionAt (suc zero) d n = record { acted = n .acted; made = 2; first = n .first; second = d; dropped = n .dropped }
 decisionAt (suc (suc k)) d n = n
 
 abbrev pub noteDecision : Notes → Coord → Way → Notes
@@ -37,9 +37,18 @@ notedMarks n (Acted e ∷ marks) = notedMarks (noteActed n e) marks
 notedMarks n (Begun c ∷ marks) = notedMarks n marks
 notedMarks n (Decided c way ∷ marks) = notedMarks (noteDecision n c way) marks
 
+-- a count and so many more. It stops at 65,535, which no call comes near (specs/Limits.antt: DropsAtMost)
+abbrev pub counted : ℕ → ℕ → ℕ
+counted k zero = k
+counted k (suc more) = min (k + suc more) 65535
+
+-- so many states were dropped
+abbrev pub noteDropped : Notes → ℕ → Notes
+noteDropped n k = record { acted = n .acted; made = n .made; first = n .first; second = n .second; dropped = counted (n .dropped) k }
+
 -- what a step did, put into the notes
 abbrev pub noted : Notes → Done → Notes
-noted n done = notedMarks n (done .marks)
+noted n done = noteDropped (notedMarks n (done .marks)) (done .dropped)
 
 -- the decisions that marks name, in their order, and those that notes name
 unfoldable pub decisions : List Mark → List (Coord × Way)

@@ -9,6 +9,7 @@ use super::active::Waiting;
 use super::active::WaitingState;
 use super::layout::Layout;
 use super::notes::Notes;
+use super::notes::note_dropped;
 use event::Coord;
 ghost use mathlib.Core.Path.{_≡_};
 ghost use mathlib.Core.Bool.{true, cond};
@@ -17,7 +18,7 @@ ghost use Rattle.codes.specs.Codes.{legal};
 ghost use Rattle.layout.specs.Model.{still, withBase, withWaiting};
 ghost use Rattle.layout.specs.Packed.{waitingOf, waitsAt};
 ghost use Rattle.layout.specs.Inside.{Tidy};
-ghost use Rattle.layout.specs.Effects.{stateOf, effectOf, HasRoom, Pushes, Leaves, Grown};
+ghost use Rattle.layout.specs.Effects.{stateOf, effectOf, HasRoom, Added, Pushes, Leaves, Grown};
 
 // How far a call has come: what it has changed, and what it has done.
 pub(crate) struct Progress {
@@ -64,19 +65,32 @@ fn state_of(number: u32, coord: Coord) -> State
     }
 }
 
-// One state more. A 65th is dropped.
-fn push(effect: Effect, number: u32, added: &mut [u32; Layout::STATES]) -> Effect
+// Adds a state where there is room, and says whether it was kept.
+fn add(effect: Effect, number: u32, added: &mut [u32; Layout::STATES]) -> bool
     requires { ⌜ HasRoom effect (now added) ⌝ }
-    ensures { λ r. ⌜ Pushes effect r (now (added .entry)) (now (added .exit)) (λ c. stateOf c number) ⌝ }
+    ensures { λ r. ⌜ Added effect number r (now (added .entry)) (now (added .exit)) ⌝ }
 {
     let n = effect.added;
     if effect.held + n < Layout::STATES {
         added[n] = number;
-        let mut out = effect;
-        out.added = n + 1;
+        return true;
+    }
+    false
+}
+
+// One state more. A 65th is dropped, and counted.
+fn push(effect: Effect, number: u32, added: &mut [u32; Layout::STATES]) -> Effect
+    requires { ⌜ HasRoom effect (now added) ⌝ }
+    ensures { λ r. ⌜ Pushes effect r (now (added .entry)) (now (added .exit)) (λ c. stateOf c number) ⌝ }
+{
+    let mut out = effect;
+    if add(effect, number, added) {
+        out.added = effect.added + 1;
         return out;
     }
-    effect
+    let notes = effect.notes;
+    out.notes = note_dropped(notes);
+    out
 }
 
 // A key's code held.

@@ -5,6 +5,7 @@ use mathlib.Core.Bool.{true}
 use mathlib.Core.List.{List, [], _∷_}
 use mathlib.Core.Path.{_≡_, refl, sym, _∙_}
 use native.Mathlib.Omega.{arith}
+use native.Mathlib.Nat.{zero-add}
 use borrow.Author.Needs.{needs}
 use borrow.Author.Tests.{ltb-true}
 use borrow.Fn.Kinds.{In}
@@ -151,7 +152,7 @@ decide-returns-2 t c =
     let r = c .before .before .before .before .before .before .before in
     let s = r .before .before .before .before in
     let m = decide-means t r (c .before .before .before .before .before .hold .given .1) in
-    effected-as (s .args .image .now) (s .args .setting .coord) (effected-then (s .args .image .now) (s .args .setting .coord) (decide-settled t (r .before)) (c .do-action .ensures)) (λ x q. rw (c .before .before .enum-told .given .1, m .is))
+    effected-as (s .args .image .now) (s .args .setting .coord) (effected-then (s .args .image .now) (s .args .setting .coord) (decide-settled t (r .before)) (c .do-action .ensures)) (λ x q. rw (c .before .before .enum-told .given .1, m .is, zero-add))
 
 decide-returns-3 : (t : ℕ) → decide-lts.Need-returns-3 (decide-calls t) (decide-at t) decide.Post
 unfolding decided meaning
@@ -159,7 +160,7 @@ decide-returns-3 t c =
     let r = c .before .before .before .before .before .before .before in
     let s = r .before .before .before .before in
     let m = decide-means t r (c .before .before .before .before .before .hold .given .1) in
-    effected-as (s .args .image .now) (s .args .setting .coord) (effected-then (s .args .image .now) (s .args .setting .coord) (decide-settled t (r .before)) (c .do-action2 .ensures)) (λ x q. rw (c .before .before .enum-told2 .given .1, m .is))
+    effected-as (s .args .image .now) (s .args .setting .coord) (effected-then (s .args .image .now) (s .args .setting .coord) (decide-settled t (r .before)) (c .do-action2 .ensures)) (λ x q. rw (c .before .before .enum-told2 .given .1, m .is, zero-add))
 
 do-action-push-key-requires : (t : ℕ) → do-action-lts.Need-push-key-requires (do-action-calls t) (do-action-at t) do-action.Post do-action-Inv-loop do-action-μ-loop
 do-action-push-key-requires t c κs =
