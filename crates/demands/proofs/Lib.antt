@@ -12,3 +12,7 @@ pub mod Demand3
 pub mod Witness
 pub mod Bench
 pub mod Ties
+pub mod Adding
+pub mod Drops
+pub mod Dropped
+pub mod DroppedCases

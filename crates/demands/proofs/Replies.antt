@@ -27,7 +27,7 @@ use Rattle.demands.specs.Runs.{Call, Tick, Enter, call, run, ticks}
 use Rattle.demands.specs.Public.{Lent, callsOf, ticksOn, lentAll, Roomy, step, reply, replies, marksIf, marksOf, lastLayout, lastCodes, NoneRefused}
 
 -- what a call that did so hands back
-abbrev given : Done → List ℕ → Reply
+abbrev pub given : Done → List ℕ → Reply
 given done buffer =
     record {
       told = record { number = 0; place = 0; codes = length (codes (done .layout .states)); notes = noted noNotes done };
@@ -35,23 +35,23 @@ given done buffer =
       buffer = laid (codes (done .layout .states)) buffer;
     }
 
-given-codes : (done : Done) (buffer : List ℕ) → codesTold (given done buffer) ≡ codes (done .layout .states)
+pub given-codes : (done : Done) (buffer : List ℕ) → codesTold (given done buffer) ≡ codes (done .layout .states)
 given-codes done buffer = take-at (codes (done .layout .states)) (drop (length (codes (done .layout .states))) buffer) (length (codes (done .layout .states))) refl
 
 module _ (img : List ℕ) (shape : Shape) (e : checkOf img ≡ Accepted shape) where
   sound : Sound img
   sound = accepted img shape e .1
 
-  fine : (l : Model) (room : ℕ) → Lawful img l → 64 ≤ room → judgedOf img (pack l) room ≡ Fine
+  pub fine : (l : Model) (room : ℕ) → Lawful img l → 64 ≤ room → judgedOf img (pack l) room ≡ Fine
   unfolding judgedOf orElse rule
   fine l room w h = rw (e, lawful-good img l w, le-leb 64 room h)
 
-  stays-lawful : (k : Call) (l : Model) → Lawful img l → Lawful img (call (tableOf img) k l .layout)
+  pub stays-lawful : (k : Call) (l : Model) → Lawful img l → Lawful img (call (tableOf img) k l .layout)
   unfolding call
   stays-lawful Tick l w = tick-lawful img sound l w
   stays-lawful (Enter x) l w = event-lawful img sound x l w
 
-  step-is : (k : Call) (l : Model) → Lawful img l → step img k (pack l) ≡ call (tableOf img) k l
+  pub step-is : (k : Call) (l : Model) → Lawful img l → step img k (pack l) ≡ call (tableOf img) k l
   unfolding step call
   step-is Tick l w = ap (tick (tableOf img)) (unpack-pack img l w)
   step-is (Enter x) l w = ap (event (tableOf img) x) (unpack-pack img l w)
@@ -60,12 +60,12 @@ module _ (img : List ℕ) (shape : Shape) (e : checkOf img ≡ Accepted shape) w
   unfolding replied answerOf layoutAfter buffered
   replied-is f l buffer w h = rw (fine l (length buffer) w h, ap f (unpack-pack img l w))
 
-  reply-is : (k : Call) (l : Model) (buffer : List ℕ) → Lawful img l → 64 ≤ length buffer → reply img k (pack l) buffer ≡ given (call (tableOf img) k l) buffer
+  pub reply-is : (k : Call) (l : Model) (buffer : List ℕ) → Lawful img l → 64 ≤ length buffer → reply img k (pack l) buffer ≡ given (call (tableOf img) k l) buffer
   unfolding reply call
   reply-is Tick l buffer w h = replied-is (tick (tableOf img)) l buffer w h
   reply-is (Enter x) l buffer w h = replied-is (event (tableOf img) x) l buffer w h
 
-  marks-are : (k : Call) (l : Model) (buffer : List ℕ) → Lawful img l → 64 ≤ length buffer
+  pub marks-are : (k : Call) (l : Model) (buffer : List ℕ) → Lawful img l → 64 ≤ length buffer
       → marksIf (judgedOf img (pack l) (length buffer)) (step img k (pack l)) ≡ call (tableOf img) k l .marks
   unfolding marksIf
   marks-are k l buffer w h = rw (fine l (length buffer) w h, step-is k l w)

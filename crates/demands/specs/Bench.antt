@@ -38,13 +38,15 @@ pub data Input : Type 0 where
   -- rows, columns, nb_bounce and start picture of a debouncer, and scans
   Scans : ℕ → ℕ → ℕ → List ℕ → List (List ℕ) → Input
 
--- all that an answer of the layout says: number, place, codes, the event acted on if any, the decisions
+-- all that an answer of the layout says: number, place, codes, the event acted on if any, the decisions, and how many states were
+-- dropped (document 02, W-202)
 pub record Says : Type 0 where
   pub number : ℕ
   pub place : ℕ
   pub codes : List ℕ
   pub acted : List Event
   pub decided : List (Coord × Way)
+  pub dropped : ℕ
 
 -- a scan's answer: its number, and the bytes of its events
 pub record Scanned : Type 0 where
@@ -72,6 +74,7 @@ says r =
       codes = codesTold r;
       acted = actedIn (r .told .notes .acted);
       decided = madeIn (r .told .notes);
+      dropped = r .told .notes .dropped;
     }
 
 -- one scan after the other, one buffer lent to each, as the contract of `Debouncer::events` has it: three bytes an event
@@ -104,18 +107,18 @@ unfoldable pub AllHold : List Case → Type 0
 AllHold [] = Unit
 AllHold (c ∷ cs) = Holds c × AllHold cs
 
--- the coordinates of Z's HoldTap, and answers that refuse nothing
+-- the coordinates of Z's HoldTap, and answers that refuse and drop nothing
 abbrev pub origin : Coord
 origin = record { i = 0; j = 0 }
 
 abbrev pub nothing : Says
-nothing = record { number = 0; place = 0; codes = []; acted = []; decided = [] }
+nothing = record { number = 0; place = 0; codes = []; acted = []; decided = []; dropped = 0 }
 
 abbrev pub acting : Event → List (Coord × Way) → List ℕ → Says
-acting e decided codes = record { number = 0; place = 0; codes = codes; acted = e ∷ []; decided = decided }
+acting e decided codes = record { number = 0; place = 0; codes = codes; acted = e ∷ []; decided = decided; dropped = 0 }
 
 abbrev pub deciding : List (Coord × Way) → List ℕ → Says
-deciding decided codes = record { number = 0; place = 0; codes = codes; acted = []; decided = decided }
+deciding decided codes = record { number = 0; place = 0; codes = codes; acted = []; decided = decided; dropped = 0 }
 
 abbrev pub events : List ℕ → Scanned
 events bytes = record { number = 0; events = bytes }

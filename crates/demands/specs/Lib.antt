@@ -8,3 +8,6 @@ pub mod Z
 pub mod Witness
 pub mod Bench
 pub mod Ties
+pub mod Adding
+pub mod Dropped
+pub mod DroppedCases

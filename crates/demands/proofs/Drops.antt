@@ -1,0 +1,165 @@
+-- How many states a call drops at most, by the measure of crates/layout/proofs/Limits.antt: what an action drops, and what it
+-- leaves waiting may drop, is within its weight.
+-- Assumes nothing.
+use Prim.Native.Nat.{ℕ, _+_, _≤_}
+use mathlib.Core.Path.{_≡_, refl, ap}
+use mathlib.Core.Bool.{Bool, true, false, cond}
+use mathlib.Core.List.{List, [], _∷_, _++_}
+use native.Mathlib.Omega.{arith}
+use native.Mathlib.Nat.{le-refl}
+use lib.Dec.{ltb}
+use lib.ListN.{length}
+use Rattle.event.specs.declared.Coord.{Coord}
+use Rattle.event.specs.declared.Event.{Event}
+use Rattle.event.specs.declared.Event.the-variants.{Release, Press}
+use Rattle.image.specs.Record.{cellAt}
+use Rattle.image.specs.Sound.{Sound}
+use Rattle.image.specs.Table.{Table, tableOf, treeIn, timesOf}
+use Rattle.image.specs.Tree.{Action, Actions, NoOp, Trans, KeyCode, MultipleKeyCodes, MultipleActions, Layer, DefaultLayer, HoldTap, end, _&_, tree, weight, weights}
+use Rattle.image.specs.declared.record.Cell.{Cell}
+use Rattle.image.specs.declared.record.Cell.the-variants as cell
+use Rattle.image.proofs.Accepted.{light}
+use Rattle.layout.specs.Model.{Model, Waiting, Idle, Waits, Done, still, lost, withBase, withStates, withWaiting}
+use Rattle.layout.specs.Actions.{push, pushCodes, find, Ruling, Undecided, AtOnce, ruling, begins, doAction, doActions, decided}
+use Rattle.layout.specs.Steps.{current, held, orDefault, pressed, act, into, event, tick}
+use Rattle.layout.specs.Packed.{holdOf, tapOf, waitingOf, unpack}
+use Rattle.layout.specs.Reach.{waitsIn}
+use Rattle.layout.specs.declared.active.State.{State}
+use Rattle.layout.specs.declared.active.State.the-variants.{NormalKey, LayerModifier}
+use Rattle.layout.specs.declared.active.Waiting.{Waiting as WaitingIn}
+use Rattle.layout.specs.declared.active.Waiting.the-variants as waiting
+use Rattle.layout.specs.declared.notes.Way.{Way}
+use Rattle.layout.specs.declared.notes.Way.the-variants.{Tap, Hold}
+use Rattle.layout.specs.declared.queue.Found.{Found}
+use Rattle.layout.specs.declared.layout.Layout.{Layout}
+use Rattle.layout.proofs.Limits.{Measured, event-within, tick-within, Weights, weighed, Calm, spare as spared, weighted, proper-cells, calm-held}
+
+-- what a hold-tap that waits may still drop
+abbrev spare : Waiting → ℕ
+spare Idle = 0
+spare (Waits c k i h p) = weight h + weight p
+
+-- of a budget, with what waits behind it counted
+abbrev Within : ℕ → Done → Type 0
+Within budget r = r .dropped + spare (r .layout .waiting) ≤ budget
+
+within-push : (s : State) (l : Model) → Within (1 + spare (l .waiting)) (push s l)
+unfolding push
+within-push s l = go (ltb (length (l .states)) 64)
+  where
+    go : (b : Bool) → Within (1 + spare (l .waiting)) (cond b (still (withStates (l .states ++ (s ∷ [])) l)) (lost l))
+    go true = omega arith
+    go false = omega arith
+
+within-codes : (ks : List ℕ) (c : Coord) (l : Model) → Within (length ks + spare (l .waiting)) (pushCodes ks c l)
+unfolding pushCodes
+within-codes [] c l = omega arith
+within-codes (k ∷ ks) c l = omega (arith, within-push (NormalKey k c) l, within-codes ks c (push (NormalKey k c) l .layout))
+
+within-begins : (v : Ruling) (c : Coord) (w : Model) (t h : Done) (b : ℕ) → spare (w .waiting) ≤ b → Within b t → Within b h → Within b (begins v c w t h)
+within-begins Undecided c w t h b x y z = omega (arith, x)
+within-begins (AtOnce Tap) c w t h b x y z = y
+within-begins (AtOnce Hold) c w t h b x y z = z
+
+mutual
+  unfolding doAction weight
+
+  within : (a : Action) (n : ℕ) (c : Coord) (d : ℕ) (f : Found) (l : Model) → Within (weight a + spare (l .waiting)) (doAction a n c d f l)
+  within NoOp n c d f l = omega arith
+  within Trans n c d f l = omega arith
+  within (KeyCode k) n c d f l = within-push (NormalKey k c) l
+  within (MultipleKeyCodes ks) n c d f l = omega (arith, within-codes ks c l)
+  within (MultipleActions as′) n c d f l = omega (arith, within-all as′ n c d f l)
+  within (Layer v) n c d f l = within-push (LayerModifier v c) l
+  within (DefaultLayer v) n c d f l = go (ltb v n)
+    where
+      go : (b : Bool) → Within (1 + spare (l .waiting)) (cond b (still (withBase v l)) (still l))
+      go true = omega arith
+      go false = omega arith
+  within (HoldTap i t h p) n c d f l =
+      let x = within p n c 0 f (withWaiting Idle l) in
+      let y = within h n c 0 f (withWaiting Idle l) in
+      within-begins (ruling t d f) c _ _ _ _ (omega arith) (omega (arith, x)) (omega (arith, y))
+
+  within-all : (as′ : Actions) (n : ℕ) (c : Coord) (d : ℕ) (f : Found) (l : Model) → Within (weights as′ + spare (l .waiting)) (doActions as′ n c d f l)
+  within-all end n c d f l = omega arith
+  within-all (a & as′) n c d f l = omega (arith, within a n c d f l, within-all as′ n c d f (doAction a n c d f l .layout))
+
+-- every action that a press finds in an accepted table is light
+cell-light : (img : List ℕ) → Sound img → (c : Cell) → weight (treeIn img c) ≤ 64
+unfolding treeIn weight
+cell-light img s (cell.Record n) = light img n s
+cell-light img s cell.Outside = omega arith
+
+default-light : (a b : Action) → weight a ≤ 64 → weight b ≤ 64 → weight (orDefault a b) ≤ 64
+default-light NoOp b x y = x
+default-light Trans b x y = y
+default-light (KeyCode k) b x y = x
+default-light (MultipleKeyCodes ks) b x y = x
+default-light (MultipleActions actions) b x y = x
+default-light (Layer v) b x y = x
+default-light (DefaultLayer v) b x y = x
+default-light (HoldTap i t h p) b x y = x
+
+pressed-light : (img : List ℕ) → Sound img → (c : Coord) (l : Model) → weight (pressed (tableOf img) c l) ≤ 64
+unfolding pressed
+pressed-light img s c l =
+    default-light _ _
+    (cell-light img s (cellAt img (current (l .base) (held (l .states))) (c .i) (c .j)))
+    (cell-light img s (cellAt img (l .base) (c .i) (c .j)))
+
+-- whatever the marks weigh: that what waits has a hold and a tap that are not open is known of every such measure
+abbrev nothingWeighed : Weights
+nothingWeighed = record { acted = 0; begun = 0; decided = 0 }
+
+module _ (img : List ℕ) (s : Sound img) where
+  abbrev T : Table
+  T = tableOf img
+
+  calmly : Measured T (λ r. weighed nothingWeighed (r .marks)) Calm (spared nothingWeighed) (0 + 0 + 0)
+  calmly = weighted T (timesOf img) (proper-cells img s) nothingWeighed
+
+  act-within : (e : Event) (age : ℕ) (l : Model) → l .waiting ≡ Idle → Within 64 (act T e age l)
+  unfolding act
+  act-within (Release i j) age l w = rw w (omega arith)
+  act-within (Press i j) age l w =
+      let c : Coord = record { i = i; j = j } in
+      omega (arith, ap spare w, pressed-light img s c l, within (pressed T c l) (T .layers) c age (find c (l .queue)) l)
+
+  into-within : (way : Way) (w : Waiting) (l : Model) → into way T w l .dropped ≤ spare w
+  unfolding into decided
+  into-within way Idle l = omega arith
+  into-within Tap (Waits c left i h p) l = omega (arith, within p (T .layers) c 0 (find c (l .queue)) (withWaiting Idle l))
+  into-within Hold (Waits c left i h p) l = omega (arith, within h (T .layers) c 0 (find c (l .queue)) (withWaiting Idle l))
+
+  measured : Measured T (λ r. r .dropped) Calm spare 64
+  measured =
+      record {
+        nothing = λ l. refl;
+        adds = λ r t. refl;
+        acts = λ e age l w. (calmly .acts e age l w .0, act-within e age l w);
+        decides = λ way l c. (into-within way (l .waiting) l, calmly .decides way l c .1);
+        sooner = λ c j k i h p f. (f, le-refl (weight h + weight p));
+      }
+
+  -- what waits in a layout is looked up in the image, so it is lighter than its record
+  lighter : (a : Action) → weight a ≤ 64 → weight (holdOf a) + weight (tapOf a) ≤ 63
+  unfolding weight
+  lighter NoOp h = omega arith
+  lighter Trans h = omega arith
+  lighter (KeyCode k) h = omega arith
+  lighter (MultipleKeyCodes ks) h = omega arith
+  lighter (MultipleActions actions) h = omega arith
+  lighter (Layer v) h = omega arith
+  lighter (DefaultLayer v) h = omega arith
+  lighter (HoldTap i t hold tap) h = omega arith
+
+  spare-held : (w : WaitingIn) → spare (waitingOf img w) ≤ 63
+  spare-held waiting.Nothing = omega arith
+  spare-held (waiting.On w) = lighter (tree img (w .number)) (light img (w .number) s)
+
+  pub event-drops : (e : Event) (layout : Layout) → event T e (unpack img layout) .dropped ≤ 127
+  event-drops e layout = omega (arith, event-within T _ Calm spare 64 measured e (unpack img layout) (calm-held img (waitsIn layout) s), spare-held (waitsIn layout))
+
+  pub tick-drops : (layout : Layout) → tick T (unpack img layout) .dropped ≤ 64
+  tick-drops layout = tick-within T _ Calm spare 64 measured (unpack img layout) (calm-held img (waitsIn layout) s) 64 (le-refl 64) (omega (arith, spare-held (waitsIn layout)))
