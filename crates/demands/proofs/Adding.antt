@@ -76,7 +76,7 @@ module _ (P : ℕ → Type 0) (f : ℕ → ℕ) (a : Additive P f) where
     mutual
       unfolding by.doAction doAction
 
-      follow-action : (x : Action) (n : ℕ) (c : Coord) (d : ℕ) (g : Found) (l : Model) → Follows P f (by.doAction add x n c d g l) (doAction x n c d g l)
+      pub follow-action : (x : Action) (n : ℕ) (c : Coord) (d : ℕ) (g : Found) (l : Model) → Follows P f (by.doAction add x n c d g l) (doAction x n c d g l)
       follow-action NoOp n c d g l = follow-still l
       follow-action Trans n c d g l = follow-still l
       follow-action (KeyCode k) n c d g l = adds (NormalKey k c) l

@@ -1,14 +1,14 @@
--- How many states a call drops at most, by the measure of crates/layout/proofs/Limits.antt: what an action drops, and what it
+-- What an action drops is what it asks for and does not get. And how many states a call drops at most, by the measure of crates/layout/proofs/Limits.antt: what an action drops, and what it
 -- leaves waiting may drop, is within its weight.
 -- Assumes nothing.
-use Prim.Native.Nat.{ℕ, _+_, _≤_}
+use Prim.Native.Nat.{ℕ, _+_, _-_, _≤_}
 use mathlib.Core.Path.{_≡_, refl, ap}
 use mathlib.Core.Bool.{Bool, true, false, cond}
 use mathlib.Core.List.{List, [], _∷_, _++_}
 use native.Mathlib.Omega.{arith}
 use native.Mathlib.Nat.{le-refl}
 use lib.Dec.{ltb}
-use lib.ListN.{length}
+use lib.ListN.{length, length-append}
 use Rattle.event.specs.declared.Coord.{Coord}
 use Rattle.event.specs.declared.Event.{Event}
 use Rattle.event.specs.declared.Event.the-variants.{Release, Press}
@@ -19,7 +19,7 @@ use Rattle.image.specs.Tree.{Action, Actions, NoOp, Trans, KeyCode, MultipleKey
 use Rattle.image.specs.declared.record.Cell.{Cell}
 use Rattle.image.specs.declared.record.Cell.the-variants as cell
 use Rattle.image.proofs.Accepted.{light}
-use Rattle.layout.specs.Model.{Model, Waiting, Idle, Waits, Done, still, lost, withBase, withStates, withWaiting}
+use Rattle.layout.specs.Model.{Model, Waiting, Idle, Waits, Done, still, lost, after, withBase, withStates, withWaiting}
 use Rattle.layout.specs.Actions.{push, pushCodes, find, Ruling, Undecided, AtOnce, ruling, begins, doAction, doActions, decided}
 use Rattle.layout.specs.Steps.{current, held, orDefault, pressed, act, into, event, tick}
 use Rattle.layout.specs.Packed.{holdOf, tapOf, waitingOf, unpack}
@@ -33,6 +33,98 @@ use Rattle.layout.specs.declared.notes.Way.the-variants.{Tap, Hold}
 use Rattle.layout.specs.declared.queue.Found.{Found}
 use Rattle.layout.specs.declared.layout.Layout.{Layout}
 use Rattle.layout.proofs.Limits.{Measured, event-within, tick-within, Weights, weighed, Calm, spare as spared, weighted, proper-cells, calm-held}
+use Rattle.demands.specs.Adding as by
+use Rattle.demands.specs.Adding.{Adds, kept}
+use Rattle.demands.specs.Dropped.{Missing}
+use Rattle.demands.proofs.Adding.{Additive, follow-action, Any, all, nothing, all-told, none-told, push-follows}
+
+-- how many states a ruling lets an action ask for: none where the hold-tap waits
+abbrev ruled : Ruling → ℕ → ℕ → ℕ
+ruled Undecided tap hold = 0
+ruled (AtOnce Tap) tap hold = tap
+ruled (AtOnce Hold) tap hold = hold
+
+-- how many states an action asks for
+unfoldable mutual
+  asks : Action → ℕ → Found → ℕ
+  asks NoOp d f = 0
+  asks Trans d f = 0
+  asks (KeyCode k) d f = 1
+  asks (MultipleKeyCodes ks) d f = length ks
+  asks (MultipleActions as′) d f = asksAll as′ d f
+  asks (Layer v) d f = 1
+  asks (DefaultLayer v) d f = 0
+  asks (HoldTap i t h p) d f = ruled (ruling t d f) (asks p 0 f) (asks h 0 f)
+
+  asksAll : Actions → ℕ → Found → ℕ
+  asksAll end d f = 0
+  asksAll (a & as′) d f = asks a d f + asksAll as′ d f
+
+-- so many are asked for: each is held, or is among what is told of those dropped
+abbrev Asked : (ℕ → ℕ) → ℕ → Model → Done → Type 0
+Asked g k l r = length (r .layout .states) + g (r .dropped) ≡ length (l .states) + k
+
+module _ (g : ℕ → ℕ) (a : Additive Any g) (add : Adds) (adds : (s : State) (l : Model) → Asked g 1 l (add s l)) where
+  asked-still : (l m : Model) → m .states ≡ l .states → Asked g 0 l (still m)
+  asked-still l m e = omega (arith, ap length e, a .none)
+
+  asked-after : (i k : ℕ) (l : Model) (r s : Done) → Asked g i l r → Asked g k (r .layout) s → Asked g (i + k) l (after r s)
+  asked-after i k l r s x y = omega (arith, x, y, a .sums (r .dropped) (s .dropped))
+
+  asked-begins : (v : Ruling) (c : Coord) (l w : Model) (t h : Done) (i k : ℕ) → w .states ≡ l .states → Asked g i l t → Asked g k l h → Asked g (ruled v i k) l (begins v c w t h)
+  asked-begins Undecided c l w t h i k e x y = asked-still l w e
+  asked-begins (AtOnce Tap) c l w t h i k e x y = x
+  asked-begins (AtOnce Hold) c l w t h i k e x y = y
+
+  asked-codes : (ks : List ℕ) (c : Coord) (l : Model) → Asked g (length ks) l (by.pushCodes add ks c l)
+  unfolding by.pushCodes
+  asked-codes [] c l = asked-still l l refl
+  asked-codes (k ∷ ks) c l =
+      let r = add (NormalKey k c) l in
+      omega (arith, asked-after 1 (length ks) l r (by.pushCodes add ks c (r .layout)) (adds (NormalKey k c) l) (asked-codes ks c (r .layout)))
+
+  mutual
+    unfolding by.doAction asks
+
+    asked : (x : Action) (n : ℕ) (c : Coord) (d : ℕ) (f : Found) (l : Model) → Asked g (asks x d f) l (by.doAction add x n c d f l)
+    asked NoOp n c d f l = asked-still l l refl
+    asked Trans n c d f l = asked-still l l refl
+    asked (KeyCode k) n c d f l = adds (NormalKey k c) l
+    asked (MultipleKeyCodes ks) n c d f l = asked-codes ks c l
+    asked (MultipleActions xs) n c d f l = asked-all xs n c d f l
+    asked (Layer v) n c d f l = adds (LayerModifier v c) l
+    asked (DefaultLayer v) n c d f l = go (ltb v n)
+      where
+        go : (b : Bool) → Asked g 0 l (cond b (still (withBase v l)) (still l))
+        go true = asked-still l (withBase v l) refl
+        go false = asked-still l l refl
+    asked (HoldTap i t h p) n c d f l =
+        asked-begins (ruling t d f) c l (withWaiting (Waits c (t - d) i h p) l) _ _ _ _ refl (asked p n c 0 f (withWaiting Idle l)) (asked h n c 0 f (withWaiting Idle l))
+
+    asked-all : (xs : Actions) (n : ℕ) (c : Coord) (d : ℕ) (f : Found) (l : Model) → Asked g (asksAll xs d f) l (by.doActions add xs n c d f l)
+    asked-all end n c d f l = asked-still l l refl
+    asked-all (x & xs) n c d f l =
+        let r = by.doAction add x n c d f l in
+        asked-after _ _ l r (by.doActions add xs n c d f (r .layout)) (asked x n c d f l) (asked-all xs n c d f (r .layout))
+
+kept-asked : (s : State) (l : Model) → Asked nothing 1 l (kept s l)
+kept-asked s l = omega (arith, length-append (l .states) (s ∷ []))
+
+push-asked : (s : State) (l : Model) → Asked all 1 l (push s l)
+unfolding push
+push-asked s l = go (ltb (length (l .states)) 64)
+  where
+    go : (b : Bool) → Asked all 1 l (cond b (still (withStates (l .states ++ (s ∷ [])) l)) (lost l))
+    go true = omega (arith, length-append (l .states) (s ∷ []))
+    go false = omega arith
+
+pub missing : Missing
+unfolding Missing
+missing x n c d f l =
+    let m = follow-action Any all all-told push push-follows x n c d f l tt in
+    let free = asked nothing none-told kept kept-asked x n c d f l in
+    let own = asked all all-told push push-asked x n c d f l in
+    omega (arith, free, own, ap (λ (k : Model). length (k .states)) (m .layout), m .dropped)
 
 -- what a hold-tap that waits may still drop
 abbrev spare : Waiting → ℕ

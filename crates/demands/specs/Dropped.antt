@@ -1,5 +1,6 @@
 -- What the count of dropped states is worth: document 02, W-202. The count is that of the layout's steps: `push` drops a 65th
 -- state (crates/layout/specs/Actions.antt), and each step leaves how many were dropped in it (Model.antt: Done).
+--     Missing      what an action drops is just what it would hold more, had it room for any number of states
 --     Told         whatever the image, the layout and the buffer, an answer tells just what its call dropped: in a tick at most 64,
 --                  in an event at most 127, and where the call is refused none
 --     NoneShown    `keycodes` tells none
@@ -22,21 +23,30 @@ use Rattle.event.specs.declared.Coord.{Coord}
 use Rattle.event.specs.declared.Event.{Event}
 use Rattle.image.specs.Check.{checkOf}
 use Rattle.image.specs.Table.{Table, tableOf}
+use Rattle.image.specs.Tree.{Action}
 use Rattle.image.specs.declared.words.Shape.{Shape}
 use Rattle.image.specs.declared.rules.Checked.the-variants.{Accepted}
 use Rattle.layout.specs.Model.{Model, Done}
-use Rattle.layout.specs.Actions.{push}
+use Rattle.layout.specs.Actions.{push, doAction}
 use Rattle.layout.specs.Steps.{codes, sum}
 use Rattle.layout.specs.Packed.{pack}
 use Rattle.layout.specs.Notes.{actedOn, decisions, actedIn, madeIn}
 use Rattle.layout.specs.Calls.{judgedOf, Reply, codesTold, replied, keycodesReply}
 use Rattle.layout.specs.Reach.{Starts}
 use Rattle.layout.specs.declared.notes.Way.{Way}
+use Rattle.layout.specs.declared.queue.Found.{Found}
 use Rattle.layout.specs.declared.layout.Layout.{Layout}
 use Rattle.demands.specs.Runs.{Call, Tick, Enter}
 use Rattle.demands.specs.Public.{Lent, callsOf, Roomy, reply, replies, step, afterCalls}
 use Rattle.demands.specs.Adding as by
 use Rattle.demands.specs.Adding.{Adds, silent, kept}
+
+-- an action runs by the layout's own steps, and with room for any number of states
+unfoldable pub Missing : Type 0
+Missing =
+    (a : Action) (n : ℕ) (c : Coord) (d : ℕ) (f : Found) (l : Model)
+    → let own = doAction a n c d f l in
+    length (by.doAction kept a n c d f l .layout .states) ≡ length (own .layout .states) + own .dropped
 
 -- what a call dropped, by its step; a refused call drops nothing
 unfoldable pub droppedIf : Verdict → Done → ℕ

@@ -37,7 +37,7 @@ notedMarks n (Acted e ∷ marks) = notedMarks (noteActed n e) marks
 notedMarks n (Begun c ∷ marks) = notedMarks n marks
 notedMarks n (Decided c way ∷ marks) = notedMarks (noteDecision n c way) marks
 
--- a count and so many more. It stops at 65,535, which no call comes near (specs/Limits.antt: DropsAtMost)
+-- a count and so many more. It stops at 65,535, which no call comes near (crates/demands/specs/Dropped.antt: Told)
 abbrev pub counted : ℕ → ℕ → ℕ
 counted k zero = k
 counted k (suc more) = min (k + suc more) 65535
