@@ -1,5 +1,5 @@
--- What an action drops is what it asks for and does not get. And how many states a call drops at most, by the measure of crates/layout/proofs/Limits.antt: what an action drops, and what it
--- leaves waiting may drop, is within its weight.
+-- What an action drops is what it asks for and does not get. And how many states a call drops at most, by the measure of
+-- crates/layout/proofs/Limits.antt: what an action drops, and what it leaves waiting may drop, is within its weight.
 -- Assumes nothing.
 use Prim.Native.Nat.{ℕ, _+_, _-_, _≤_}
 use mathlib.Core.Path.{_≡_, refl, ap}

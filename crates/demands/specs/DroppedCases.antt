@@ -4,7 +4,7 @@
 use Prim.Native.Nat.{ℕ}
 use mathlib.Core.Path.{_≡_}
 use mathlib.Core.List.{List, [], _∷_, _++_, map}
-use lib.ListN.{length, drop, replicate}
+use lib.ListN.{drop, replicate}
 use Rattle.event.specs.declared.Event.the-variants.{Release, Press}
 use Rattle.layout.specs.Model.{fresh}
 use Rattle.layout.specs.Packed.{pack}
