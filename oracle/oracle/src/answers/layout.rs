@@ -1,14 +1,16 @@
 //! The lines over keyberon's layout: `image`, `p`, `r`, `t`, `k`, `room`, and those that set a part of the
 //! layout as it stands.
 //!
-//! Assumes: what is refused, the acted-on event and the decisions are the paper's to say, since the Rust has
-//! no images and tells codes alone. From an accepted image on the Rust runs beside the paper, which is held to
-//! its codes, until a line sets a part: the Rust's fields are private, so the paper goes on alone.
+//! Assumes: what is refused, the acted-on event, the decisions and the number of dropped states are the paper's to
+//! say, since the Rust has no images and tells codes alone. From an accepted image on the Rust runs beside the
+//! paper, which is held to its codes, until a line sets a part: the Rust's fields are private, so the paper goes on
+//! alone.
 
 use super::both::agreed;
 use super::Adapter;
 use crate::paper::calls::{Call, Given};
 use crate::paper::layout::{Coord, Event, Mark, Queued, State, Waiting, MOST_QUEUED, MOST_STATES};
+use crate::paper::marks::dropped;
 use crate::paper::state::Held;
 use crate::table::Tabled;
 use crate::{key_code, words};
@@ -90,7 +92,7 @@ pub fn rust_codes(layout: &mut rust::Layout, call: Call) -> String {
     })
 }
 
-/// Adds the event acted on and the decisions made to an answer.
+/// Adds the event acted on, the decisions made and the number of dropped states to an answer.
 fn push_marks(answer: &mut String, marks: &[Mark]) {
     let acted = marks.iter().find_map(|mark| match *mark {
         Mark::Acted(Event::Press(at)) => Some(("p", at)),
@@ -104,6 +106,7 @@ fn push_marks(answer: &mut String, marks: &[Mark]) {
     });
     push_part(answer, " | acted ", acted.into_iter());
     push_part(answer, " | decided ", decided);
+    write!(answer, " | dropped {}", dropped(marks)).expect("a string takes any text");
 }
 
 fn push_part(answer: &mut String, name: &str, words: impl Iterator<Item = (&'static str, Coord)>) {
@@ -196,7 +199,7 @@ mod tests {
     use super::*;
     use crate::paper::image::Z;
 
-    const NOTHING: &str = "codes - | acted - | decided -";
+    const NOTHING: &str = "codes - | acted - | decided - | dropped 0";
 
     fn with_z() -> Keys {
         let mut keys = Keys::default();
@@ -226,11 +229,11 @@ mod tests {
         let wanted = [
             NOTHING,
             NOTHING,
-            "codes - | acted p 0 0 | decided -",
-            "codes 2c | acted - | decided tap 0 0",
-            "codes 2c2c | acted p 0 1 | decided -",
-            "codes 2c | acted r 0 0 | decided -",
-            "codes 2c | acted - | decided -",
+            "codes - | acted p 0 0 | decided - | dropped 0",
+            "codes 2c | acted - | decided tap 0 0 | dropped 0",
+            "codes 2c2c | acted p 0 1 | decided - | dropped 0",
+            "codes 2c | acted r 0 0 | decided - | dropped 0",
+            "codes 2c | acted - | decided - | dropped 0",
         ];
         assert_eq!(got, wanted);
     }
@@ -241,12 +244,12 @@ mod tests {
         answers(&mut keys, &["p 0 0", "t"]);
         answers(&mut keys, &["p 0 0"; 15]);
         let got = answers(&mut keys, &["p 0 1", "r 0 0"]);
-        let hold = "codes e0 | acted p 0 0 | decided hold 0 0";
+        let hold = "codes e0 | acted p 0 0 | decided hold 0 0 | dropped 0";
         assert_eq!(
             got,
             [
                 NOTHING,
-                "codes e02c | acted p 0 0 | decided hold 0 0, tap 0 0"
+                "codes e02c | acted p 0 0 | decided hold 0 0, tap 0 0 | dropped 0"
             ]
         );
         let mut keys = with_z();
@@ -269,10 +272,10 @@ mod tests {
         assert_eq!(answers(&mut keys, &lines), lines);
         let got = answers(&mut keys, &["t", "t", "t", "t"]);
         let wanted = [
-            "codes 04e0 | acted - | decided hold 7 7",
-            "codes 04e02c | acted p 0 0 | decided tap 0 0",
-            "codes 04e0 | acted r 0 0 | decided -",
-            "codes 04e0 | acted - | decided -",
+            "codes 04e0 | acted - | decided hold 7 7 | dropped 0",
+            "codes 04e02c | acted p 0 0 | decided tap 0 0 | dropped 0",
+            "codes 04e0 | acted r 0 0 | decided - | dropped 0",
+            "codes 04e0 | acted - | decided - | dropped 0",
         ];
         assert_eq!(got, wanted);
         assert_eq!(answers(&mut keys, &["default 1", "k"])[1], "refused 13 0");
@@ -292,7 +295,7 @@ mod tests {
             ("refused 12 0", NOTHING)
         );
         let got = answers(&mut keys, &["t"]);
-        assert_eq!(got, ["codes 2c | acted p 0 1 | decided -"]);
+        assert_eq!(got, ["codes 2c | acted p 0 1 | decided - | dropped 0"]);
     }
 
     #[test]
@@ -328,7 +331,7 @@ mod tests {
         let got = answers(&mut keys, &["t"]);
         assert_eq!(
             got,
-            ["! rust: codes -; paper: codes 2c | acted p 0 1 | decided -"]
+            ["! rust: codes -; paper: codes 2c | acted p 0 1 | decided - | dropped 0"]
         );
     }
 }

@@ -121,8 +121,8 @@ mod tests {
         let (image, areas) = (format!("image {z}"), format!("areas - {z}"));
         let got = answers(&[&image, "p 0 0", "t", &areas, "t", "areas - -", "t"]);
         assert_eq!([&got[3], &got[5]], ["built-in 52", "refused 1 0"]);
-        assert_eq!(got[4], "codes - | acted - | decided -");
-        assert_eq!(got[6], "codes e0 | acted - | decided hold 0 0");
+        assert_eq!(got[4], "codes - | acted - | decided - | dropped 0");
+        assert_eq!(got[6], "codes e0 | acted - | decided hold 0 0 | dropped 0");
         assert_eq!(answers(&[&areas, "t"]), ["built-in 52", "refused 1 0"]);
     }
 
@@ -183,8 +183,8 @@ mod tests {
         let print = format!("print {image} 49");
         let image = format!("image {image}");
         let got = answers(&[&image, "p 0 0", "t", &write, "t", &print, "write - 0", "t"]);
-        assert_eq!(got[4], "codes - | acted - | decided -");
-        assert_eq!(got[7], "codes e0 | acted - | decided hold 0 0");
+        assert_eq!(got[4], "codes - | acted - | decided - | dropped 0");
+        assert_eq!(got[7], "codes e0 | acted - | decided hold 0 0 | dropped 0");
         assert_eq!(answers(&[&write, "t"])[1], "refused 1 0");
     }
 }

@@ -1,4 +1,5 @@
-//! The layout by document 01, "Layout": its steps over lists, with a mark for everything that happens.
+//! The layout by document 01, "Layout": its steps over lists, with a mark for everything that happens, a state for
+//! which there was no place included (document 02, W-202).
 //!
 //! Assumes: the table was accepted and the layout is legal over it (`state.rs`). So a record's children are
 //! lower and closed where they must be, nothing waits when an action runs, and no queued event is older than

@@ -1,9 +1,15 @@
-//! What the marks of a whole run tell: the events acted on, and whether each hold-tap begun was decided once and
-//! in time.
+//! What marks tell. Of a call: how many states it dropped. Of a whole run: the events acted on, and whether each
+//! hold-tap begun was decided once and in time.
 //!
-//! Assumes: the marks are those of all calls since the layout was fresh, in order.
+//! Assumes: the marks of a whole run are those of all calls since the layout was fresh, in order.
 
 use super::layout::{Coord, Event, Mark};
+
+/// How many states had no place (document 02, W-202): codes and held layers alike, whatever ran them.
+pub fn dropped(marks: &[Mark]) -> usize {
+    let is_drop = |mark: &&Mark| matches!(mark, Mark::Dropped);
+    marks.iter().filter(is_drop).count()
+}
 
 /// The events acted on, in order.
 pub fn acted(marks: &[Mark]) -> Vec<Event> {

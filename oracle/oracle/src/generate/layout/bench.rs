@@ -1,28 +1,34 @@
 //! The bench cases of document 01 for the layout and its "easy errors", as lines and what they answer.
 //!
-//! Assumes: the answers stand in document 01, or follow from its steps by hand.
+//! Assumes: the answers stand in document 01, or follow from its steps by hand. No state is dropped in them; those in
+//! which one is stand in `drops/cases.rs`.
 
 use super::super::draft::{Draft, NOOP};
 use crate::paper::image::Z;
 use crate::random::Random;
 use crate::words::to_hex;
 
-const NOTHING: &str = "codes - | acted - | decided -";
+/// What a call answers that did nothing, but for its count.
+pub const NOTHING: &str = "codes - | acted - | decided -";
 
 /// Lines, each with its answer.
 pub struct Case(pub Vec<(String, String)>);
 
 impl Case {
-    fn over(image: &[u8]) -> Self {
+    pub fn over(image: &[u8]) -> Self {
         let line = format!("image {}", to_hex(image));
         Case(vec![(line, "accepted".to_string())])
     }
 
-    /// A line that is given so many times, and its answer.
-    fn with(mut self, line: &str, times: usize, answer: &str) -> Self {
-        for _ in 0..times {
-            self.0.push((line.to_string(), answer.to_string()));
-        }
+    /// A line that is given so many times, and its answer; no state is dropped.
+    pub fn with(self, line: &str, times: usize, answer: &str) -> Self {
+        let answer = format!("{answer} | dropped 0");
+        (0..times).fold(self, |case, _| case.answered(line, &answer))
+    }
+
+    /// A line and its whole answer.
+    pub fn answered(mut self, line: &str, answer: &str) -> Self {
+        self.0.push((line.to_string(), answer.to_string()));
         self
     }
 }
@@ -72,7 +78,7 @@ pub fn cases() -> Vec<Case> {
             let case = Case(vec![(image, answer.to_string())]);
             ["t", "k", "p 0 0", "r 0 0"]
                 .iter()
-                .fold(case, |case, line| case.with(line, 1, answer))
+                .fold(case, |case, line| case.answered(line, answer))
         }),
     );
     cases
