@@ -11,6 +11,7 @@ mod damage;
 mod debounce;
 mod draft;
 pub mod drains;
+mod drops;
 mod fields;
 mod grow;
 mod image;
@@ -40,6 +41,7 @@ pub fn scripts(kind: &str, n: usize, seed: u64) -> Option<Box<dyn Kind>> {
         "keyboard" => Some(Box::new(keyboard::Calls::new(n, seed))),
         "layout" => Some(Box::new(layout::Traces::new(n, seed))),
         "states" => Some(Box::new(states::States::new(n, seed))),
+        "drops" => Some(Box::new(drops::Drops::new(n, seed))),
         _ => None,
     }
 }
@@ -55,6 +57,7 @@ pub fn sample(kind: &str, count: usize, seed: u64) -> Option<Script> {
         "keyboard" => Some(keyboard::sample(count, seed)),
         "layout" => Some(layout::sample(count, seed)),
         "states" => Some(states::sample(count, seed)),
+        "drops" => Some(drops::sample(count, seed)),
         _ => None,
     }
 }

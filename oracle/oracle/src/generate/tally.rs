@@ -32,7 +32,6 @@ impl Tally {
     }
 
     /// How often a number was the answer.
-    #[cfg(test)]
     pub fn of(&self, number: u8) -> usize {
         self.times[self.place(number)]
     }

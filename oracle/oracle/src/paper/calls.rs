@@ -68,6 +68,12 @@ impl Given {
         &self.layout
     }
 
+    /// How many states the next call finds, as set or as calls have left them.
+    pub fn state_count(&self) -> usize {
+        let set = self.held.as_ref().map(|held| held.state_count.into());
+        set.unwrap_or(self.layout.states.len())
+    }
+
     /// What happens in a call; the codes are then those of the layout.
     pub fn call(&mut self, call: Call) -> Result<Vec<Mark>, Refusal> {
         let table = self.image.as_ref().map_err(|refusal| *refusal)?;

@@ -13,8 +13,10 @@ pub const MOST_STATES: usize = 64;
 pub const MOST_QUEUED: usize = 16;
 pub const OLDEST: u16 = 65_535;
 
-/// The kinds of records that the steps look at by name.
+/// The kinds of records that are looked at by name.
 pub const TRANS: u16 = 1;
+pub const CODES: u16 = 3;
+pub const ACTIONS: u16 = 4;
 pub const HOLD_TAP: u16 = 7;
 
 /// Row and column.
@@ -33,7 +35,7 @@ pub enum State {
 }
 
 impl State {
-    fn at(&self) -> Coord {
+    pub fn at(&self) -> Coord {
         match *self {
             State::Key { at, .. } | State::Layer { at, .. } => at,
         }
@@ -104,8 +106,10 @@ pub enum Mark {
         tap: bool,
         by: By,
     },
-    /// A state for which there was no place.
-    Dropped,
+    /// A record is run: by a press or a decision, or out of a list.
+    Ran(u16),
+    /// A state for which there was no place, of the record that was run last.
+    Dropped(State),
     /// An age that stayed as it was.
     Stopped,
 }
@@ -239,14 +243,15 @@ impl<'a> Step<'a> {
     fn run(&mut self, record: u16, at: Coord, delay: u16) {
         let table = self.table;
         let [kind, a, _, _] = table.records[usize::from(record)];
+        self.marks.push(Mark::Ran(record));
         match kind {
             2 => self.push_code(a, at),
-            3 => {
+            CODES => {
                 for &code in table.entries(record.into()) {
                     self.push_code(code, at);
                 }
             }
-            4 => {
+            ACTIONS => {
                 for &named in table.entries(record.into()) {
                     self.run(named, at, delay);
                 }
@@ -272,7 +277,7 @@ impl<'a> Step<'a> {
         if self.layout.states.len() < MOST_STATES {
             self.layout.states.push(state);
         } else {
-            self.marks.push(Mark::Dropped);
+            self.marks.push(Mark::Dropped(state));
         }
     }
 
@@ -338,15 +343,17 @@ mod tests {
     fn a_queued_release_decides_by_how_far_apart_they_came() {
         let tap = |timeout, age, release| {
             let (layout, marks) = pressed_at(timeout, age, Some(release));
-            let Some(Mark::Decided { tap, by, .. }) = marks.last() else {
-                panic!("no decision: {marks:?}");
-            };
+            let decided = marks.iter().find_map(|mark| match *mark {
+                Mark::Decided { tap, by, .. } => Some((tap, by)),
+                _ => None,
+            });
+            let (tap, by) = decided.expect("a decision");
             assert_eq!(
-                (*by, layout.waiting, layout.queue.len()),
+                (by, layout.waiting, layout.queue.len()),
                 (By::Queue, None, 1)
             );
-            assert_eq!(layout.codes(), [if *tap { 0x2C } else { 0xE0 }]);
-            *tap
+            assert_eq!(layout.codes(), [if tap { 0x2C } else { 0xE0 }]);
+            tap
         };
         assert!(tap(3, 3, 0) && tap(3, 9, 6) && tap(0, 5, 5) && tap(3, 2, 1));
         assert!(!tap(3, 4, 0) && !tap(3, 9, 5) && !tap(0, 5, 4));

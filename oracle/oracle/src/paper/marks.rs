@@ -7,7 +7,7 @@ use super::layout::{Coord, Event, Mark};
 
 /// How many states had no place (document 02, W-202): codes and held layers alike, whatever ran them.
 pub fn dropped(marks: &[Mark]) -> usize {
-    let is_drop = |mark: &&Mark| matches!(mark, Mark::Dropped);
+    let is_drop = |mark: &&Mark| matches!(mark, Mark::Dropped(_));
     marks.iter().filter(is_drop).count()
 }
 

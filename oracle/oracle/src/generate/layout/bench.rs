@@ -180,18 +180,24 @@ fn past_the_table() -> Case {
         .with("t", 1, "codes - | acted p 1 0 | decided -")
 }
 
+/// Holds the oracle to the answers of cases.
+#[cfg(test)]
+pub fn check(cases: Vec<Case>) {
+    for (number, Case(lines)) in cases.into_iter().enumerate() {
+        let (lines, wanted): (Vec<String>, Vec<String>) = lines.into_iter().unzip();
+        let lines = lines.into_iter().map(String::into_bytes);
+        let script = crate::script::Script::new(lines.collect());
+        let got = crate::answers::replay::answers(&script);
+        assert_eq!(got, wanted, "case {number}");
+    }
+}
+
 #[cfg(test)]
 mod tests {
     use super::*;
-    use crate::answers::replay::answers;
-    use crate::script::Script;
 
     #[test]
     fn cases_answer_as_they_should() {
-        for (number, Case(lines)) in cases().into_iter().enumerate() {
-            let (lines, wanted): (Vec<String>, Vec<String>) = lines.into_iter().unzip();
-            let script = Script::new(lines.into_iter().map(String::into_bytes).collect());
-            assert_eq!(answers(&script), wanted, "case {number}");
-        }
+        check(cases());
     }
 }

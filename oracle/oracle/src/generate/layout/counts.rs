@@ -3,6 +3,7 @@
 //! Assumes: the marks of the paper's steps tell what happened.
 
 use super::super::tally::{Tally, OF_IMAGES};
+use super::dropped::Dropped;
 use crate::paper::layout::{By, Found, Mark};
 use crate::paper::{ROOM, STATE};
 use std::fmt;
@@ -57,6 +58,7 @@ pub struct Counts {
     /// Calls that were not refused.
     pub calls: usize,
     pub refused: Tally,
+    pub dropped: Dropped,
     times: [usize; NAMES.len()],
     /// Hold-taps begun, by timeout; the last are those of other timeouts.
     begun: [usize; TIMEOUTS.len() + 1],
@@ -68,6 +70,7 @@ impl Default for Counts {
             images: 0,
             calls: 0,
             refused: Tally::of_numbers(OF_IMAGES.chain([ROOM, STATE])),
+            dropped: Dropped::default(),
             times: [0; NAMES.len()],
             begun: [0; TIMEOUTS.len() + 1],
         }
@@ -87,7 +90,8 @@ impl Counts {
             match *mark {
                 Mark::Acted(_) => self.add(Situation::Acted),
                 Mark::PushedOut => self.add(Situation::PushedOut),
-                Mark::Dropped => self.add(Situation::Dropped),
+                Mark::Dropped(_) => self.add(Situation::Dropped),
+                Mark::Ran(_) => (),
                 Mark::Stopped => self.add(Situation::Stopped),
                 Mark::Pressed(found) => self.add_found(found),
                 Mark::Begun { timeout, .. } => {

@@ -5,6 +5,7 @@
 
 pub mod bench;
 mod counts;
+pub mod dropped;
 mod moves;
 pub mod pen;
 pub mod tables;

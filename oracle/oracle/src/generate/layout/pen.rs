@@ -55,6 +55,12 @@ impl Pen {
         (layout.default, layout.states.len(), layout.queue.len())
     }
 
+    /// How many states a key has.
+    pub fn states_at(&self, at: Coord) -> usize {
+        let states = self.beside.given.layout().states.iter();
+        states.filter(|state| state.at() == at).count()
+    }
+
     pub fn press(&mut self, at: Coord) -> u8 {
         if !self.beside.down.insert(at) {
             self.counts.add(Situation::PressedTwice);
@@ -89,9 +95,11 @@ impl Pen {
     /// 0, or the refusal's number.
     fn call(&mut self, call: Call) -> u8 {
         self.write(&call.to_string());
+        let before = self.beside.given.state_count();
         match self.beside.given.call(call) {
             Ok(marks) => {
                 self.counts.add_call(&marks);
+                self.count_drops(call, before, &marks);
                 self.watch_waits(&marks);
                 0
             }
@@ -99,6 +107,15 @@ impl Pen {
                 self.counts.refused.add(refusal.number);
                 refusal.number
             }
+        }
+    }
+
+    /// Counts what a call dropped that has found so many states.
+    fn count_drops(&mut self, call: Call, before: usize, marks: &[Mark]) {
+        let given = &self.beside.given;
+        if let Ok(table) = &given.image {
+            let held = (before, given.layout().states.len());
+            self.counts.dropped.add_call(table, call, held, marks);
         }
     }
 
