@@ -68,6 +68,8 @@ fn put_notes(text: Text, notes: Notes) -> Text {
     let second = notes.second;
     let so_far = put_acted(text.put_all(b" | acted "), acted);
     put_decided(so_far.put_all(b" | decided "), first, second)
+        .put_all(b" | dropped ")
+        .put_number(notes.dropped as usize)
 }
 
 // The answer, `spilt` where a byte past the codes was written.
