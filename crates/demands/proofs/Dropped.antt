@@ -74,8 +74,8 @@ module _ (image : List ℕ) (f : Model → Done) (most : ℕ) (few : most ≤ 65
 
 pub told : Told
 unfolding Told step reply
-told image Tick layout buffer = tells image (tick (tableOf image)) 64 (omega arith) layout buffer (λ s. tick-drops image s layout)
-told image (Enter e) layout buffer = tells image (event (tableOf image) e) 127 (omega arith) layout buffer (λ s. event-drops image s e layout)
+told image Tick layout buffer = tells image (tick (tableOf image)) 63 (omega arith) layout buffer (λ s. tick-drops image s layout)
+told image (Enter e) layout buffer = tells image (event (tableOf image) e) 124 (omega arith) layout buffer (λ s. event-drops image s e layout)
 
 pub none-shown : NoneShown
 unfolding NoneShown replied answerOf notedMarks

@@ -15,11 +15,11 @@ use Rattle.layout.specs.State.{falling, stateGood}
 use Rattle.layout.specs.Notes.{notedMarks}
 use Rattle.layout.specs.Calls.{replied, judgedOf, answerOf, layoutAfter, buffered}
 use Rattle.demands.specs.Public.{reply, replies}
-use Rattle.demands.specs.Z.{fours, crowded, lent}
-use Rattle.demands.specs.DroppedCases.{counts, countsFull, Cases}
+use Rattle.demands.specs.Z.{fours, crowded, heaviest, lent}
+use Rattle.demands.specs.DroppedCases.{countsOf, counts, countsFull, Cases}
 
 pub cases : Cases
-unfolding every keep alike legal wordAt cellOf fieldOf entryOf entries actionOf actionAt codesIn childrenIn listEnd cellAt named meaning trees tree open? someOpen shutButLast opensLast weight treeIn rule orElse firstFault within countsGood offsetsGood headerGood headFault cellFault form formGood recordFault bodyFault faultOf answer checkOf push pushCodes find ruling doAction decided held sum current pressed release act into released overflow entered event ticked tick codes notedMarks falling stateGood judgedOf answerOf layoutAfter buffered replied reply replies fours crowded lent counts countsFull
+unfolding every keep alike legal wordAt cellOf fieldOf entryOf entries actionOf actionAt codesIn childrenIn listEnd cellAt named meaning trees tree open? someOpen shutButLast opensLast weight treeIn rule orElse firstFault within countsGood offsetsGood headerGood headFault cellFault form formGood recordFault bodyFault faultOf answer checkOf push pushCodes find ruling doAction decided held sum current pressed release act into released overflow entered event ticked tick codes notedMarks falling stateGood judgedOf answerOf layoutAfter buffered replied reply replies fours crowded heaviest lent countsOf counts countsFull
 cases =
     record {
       last = refl;
@@ -31,4 +31,6 @@ cases =
       by-queued = refl;
       by-seventeenth = refl;
       room-again = refl;
+      most-in-a-tick = refl;
+      most-in-an-event = refl;
     }

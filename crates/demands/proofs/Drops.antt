@@ -1,7 +1,7 @@
 -- What an action drops is what it asks for and does not get. And how many states a call drops at most, by the measure of
--- crates/layout/proofs/Limits.antt: what an action drops, and what it leaves waiting may drop, is within its weight.
+-- crates/layout/proofs/Limits.antt: what an action drops, and what it leaves waiting may drop, is within what it may add.
 -- Assumes nothing.
-use Prim.Native.Nat.{ℕ, _+_, _-_, _≤_}
+use Prim.Native.Nat.{ℕ, _+_, _-_, _≤_, max}
 use mathlib.Core.Path.{_≡_, refl, ap}
 use mathlib.Core.Bool.{Bool, true, false, cond}
 use mathlib.Core.List.{List, [], _∷_, _++_}
@@ -126,10 +126,26 @@ missing x n c d f l =
     let own = asked all all-told push push-asked x n c d f l in
     omega (arith, free, own, ap (λ (k : Model). length (k .states)) (m .layout), m .dropped)
 
+-- how many states an action adds at most, whatever decides its hold-tap
+unfoldable mutual
+  most : Action → ℕ
+  most NoOp = 0
+  most Trans = 0
+  most (KeyCode k) = 1
+  most (MultipleKeyCodes ks) = length ks
+  most (MultipleActions xs) = mostAll xs
+  most (Layer v) = 1
+  most (DefaultLayer v) = 0
+  most (HoldTap i t h p) = max (most h) (most p)
+
+  mostAll : Actions → ℕ
+  mostAll end = 0
+  mostAll (x & xs) = most x + mostAll xs
+
 -- what a hold-tap that waits may still drop
 abbrev spare : Waiting → ℕ
 spare Idle = 0
-spare (Waits c k i h p) = weight h + weight p
+spare (Waits c k i h p) = max (most h) (most p)
 
 -- of a budget, with what waits behind it counted
 abbrev Within : ℕ → Done → Type 0
@@ -154,18 +170,18 @@ within-begins (AtOnce Tap) c w t h b x y z = y
 within-begins (AtOnce Hold) c w t h b x y z = z
 
 mutual
-  unfolding doAction weight
+  unfolding doAction most
 
-  within : (a : Action) (n : ℕ) (c : Coord) (d : ℕ) (f : Found) (l : Model) → Within (weight a + spare (l .waiting)) (doAction a n c d f l)
+  within : (x : Action) (n : ℕ) (c : Coord) (d : ℕ) (f : Found) (l : Model) → Within (most x + spare (l .waiting)) (doAction x n c d f l)
   within NoOp n c d f l = omega arith
   within Trans n c d f l = omega arith
   within (KeyCode k) n c d f l = within-push (NormalKey k c) l
-  within (MultipleKeyCodes ks) n c d f l = omega (arith, within-codes ks c l)
-  within (MultipleActions as′) n c d f l = omega (arith, within-all as′ n c d f l)
+  within (MultipleKeyCodes ks) n c d f l = within-codes ks c l
+  within (MultipleActions xs) n c d f l = within-all xs n c d f l
   within (Layer v) n c d f l = within-push (LayerModifier v c) l
   within (DefaultLayer v) n c d f l = go (ltb v n)
     where
-      go : (b : Bool) → Within (1 + spare (l .waiting)) (cond b (still (withBase v l)) (still l))
+      go : (b : Bool) → Within (0 + spare (l .waiting)) (cond b (still (withBase v l)) (still l))
       go true = omega arith
       go false = omega arith
   within (HoldTap i t h p) n c d f l =
@@ -173,9 +189,49 @@ mutual
       let y = within h n c 0 f (withWaiting Idle l) in
       within-begins (ruling t d f) c _ _ _ _ (omega arith) (omega (arith, x)) (omega (arith, y))
 
-  within-all : (as′ : Actions) (n : ℕ) (c : Coord) (d : ℕ) (f : Found) (l : Model) → Within (weights as′ + spare (l .waiting)) (doActions as′ n c d f l)
+  within-all : (xs : Actions) (n : ℕ) (c : Coord) (d : ℕ) (f : Found) (l : Model) → Within (mostAll xs + spare (l .waiting)) (doActions xs n c d f l)
   within-all end n c d f l = omega arith
-  within-all (a & as′) n c d f l = omega (arith, within a n c d f l, within-all as′ n c d f (doAction a n c d f l .layout))
+  within-all (x & xs) n c d f l = omega (arith, within x n c d f l, within-all xs n c d f (doAction x n c d f l .layout))
+
+-- an action that is more than one state weighs one more than its states
+mutual
+  unfolding most weight
+
+  most-weight : (x : Action) → most x ≤ weight x
+  most-weight NoOp = omega arith
+  most-weight Trans = omega arith
+  most-weight (KeyCode k) = omega arith
+  most-weight (MultipleKeyCodes ks) = omega arith
+  most-weight (MultipleActions xs) = omega (arith, most-weights xs)
+  most-weight (Layer v) = omega arith
+  most-weight (DefaultLayer v) = omega arith
+  most-weight (HoldTap i t h p) = omega (arith, most-weight h, most-weight p)
+
+  most-weights : (xs : Actions) → mostAll xs ≤ weights xs
+  most-weights end = omega arith
+  most-weights (x & xs) = omega (arith, most-weight x, most-weights xs)
+
+fewer : (x : Action) (n : ℕ) → 1 ≤ n → weight x ≤ n + 1 → most x ≤ n
+unfolding most weight
+fewer NoOp n one h = omega arith
+fewer Trans n one h = omega arith
+fewer (KeyCode k) n one h = omega arith
+fewer (MultipleKeyCodes ks) n one h = omega arith
+fewer (MultipleActions xs) n one h = omega (arith, most-weights xs)
+fewer (Layer v) n one h = omega arith
+fewer (DefaultLayer v) n one h = omega arith
+fewer (HoldTap i t hold tap) n one h = omega (arith, most-weight hold, most-weight tap)
+
+weighs : (x : Action) → 1 ≤ weight x
+unfolding weight
+weighs NoOp = omega arith
+weighs Trans = omega arith
+weighs (KeyCode k) = omega arith
+weighs (MultipleKeyCodes ks) = omega arith
+weighs (MultipleActions xs) = omega arith
+weighs (Layer v) = omega arith
+weighs (DefaultLayer v) = omega arith
+weighs (HoldTap i t h p) = omega arith
 
 -- every action that a press finds in an accepted table is light
 cell-light : (img : List ℕ) → Sound img → (c : Cell) → weight (treeIn img c) ≤ 64
@@ -193,12 +249,13 @@ default-light (Layer v) b x y = x
 default-light (DefaultLayer v) b x y = x
 default-light (HoldTap i t h p) b x y = x
 
-pressed-light : (img : List ℕ) → Sound img → (c : Coord) (l : Model) → weight (pressed (tableOf img) c l) ≤ 64
+pressed-few : (img : List ℕ) → Sound img → (c : Coord) (l : Model) → most (pressed (tableOf img) c l) ≤ 63
 unfolding pressed
-pressed-light img s c l =
-    default-light _ _
+pressed-few img s c l =
+    fewer (pressed (tableOf img) c l) 63 (omega arith)
+    (default-light _ _
     (cell-light img s (cellAt img (current (l .base) (held (l .states))) (c .i) (c .j)))
-    (cell-light img s (cellAt img (l .base) (c .i) (c .j)))
+    (cell-light img s (cellAt img (l .base) (c .i) (c .j))))
 
 -- whatever the marks weigh: that what waits has a hold and a tap that are not open is known of every such measure
 abbrev nothingWeighed : Weights
@@ -211,12 +268,12 @@ module _ (img : List ℕ) (s : Sound img) where
   calmly : Measured T (λ r. weighed nothingWeighed (r .marks)) Calm (spared nothingWeighed) (0 + 0 + 0)
   calmly = weighted T (timesOf img) (proper-cells img s) nothingWeighed
 
-  act-within : (e : Event) (age : ℕ) (l : Model) → l .waiting ≡ Idle → Within 64 (act T e age l)
+  act-within : (e : Event) (age : ℕ) (l : Model) → l .waiting ≡ Idle → Within 63 (act T e age l)
   unfolding act
   act-within (Release i j) age l w = rw w (omega arith)
   act-within (Press i j) age l w =
       let c : Coord = record { i = i; j = j } in
-      omega (arith, ap spare w, pressed-light img s c l, within (pressed T c l) (T .layers) c age (find c (l .queue)) l)
+      omega (arith, ap spare w, pressed-few img s c l, within (pressed T c l) (T .layers) c age (find c (l .queue)) l)
 
   into-within : (way : Way) (w : Waiting) (l : Model) → into way T w l .dropped ≤ spare w
   unfolding into decided
@@ -224,19 +281,19 @@ module _ (img : List ℕ) (s : Sound img) where
   into-within Tap (Waits c left i h p) l = omega (arith, within p (T .layers) c 0 (find c (l .queue)) (withWaiting Idle l))
   into-within Hold (Waits c left i h p) l = omega (arith, within h (T .layers) c 0 (find c (l .queue)) (withWaiting Idle l))
 
-  measured : Measured T (λ r. r .dropped) Calm spare 64
+  measured : Measured T (λ r. r .dropped) Calm spare 63
   measured =
       record {
         nothing = λ l. refl;
         adds = λ r t. refl;
         acts = λ e age l w. (calmly .acts e age l w .0, act-within e age l w);
         decides = λ way l c. (into-within way (l .waiting) l, calmly .decides way l c .1);
-        sooner = λ c j k i h p f. (f, le-refl (weight h + weight p));
+        sooner = λ c j k i h p f. (f, le-refl (max (most h) (most p)));
       }
 
-  -- what waits in a layout is looked up in the image, so it is lighter than its record
-  lighter : (a : Action) → weight a ≤ 64 → weight (holdOf a) + weight (tapOf a) ≤ 63
-  unfolding weight
+  -- what waits in a layout is looked up in the image: its hold and its tap are both lighter than their record
+  lighter : (a : Action) → weight a ≤ 64 → max (most (holdOf a)) (most (tapOf a)) ≤ 61
+  unfolding most weight
   lighter NoOp h = omega arith
   lighter Trans h = omega arith
   lighter (KeyCode k) h = omega arith
@@ -244,14 +301,15 @@ module _ (img : List ℕ) (s : Sound img) where
   lighter (MultipleActions actions) h = omega arith
   lighter (Layer v) h = omega arith
   lighter (DefaultLayer v) h = omega arith
-  lighter (HoldTap i t hold tap) h = omega arith
+  lighter (HoldTap i t hold tap) h =
+      omega (arith, fewer hold 61 (omega arith) (omega (arith, weighs tap)), fewer tap 61 (omega arith) (omega (arith, weighs hold)))
 
-  spare-held : (w : WaitingIn) → spare (waitingOf img w) ≤ 63
+  spare-held : (w : WaitingIn) → spare (waitingOf img w) ≤ 61
   spare-held waiting.Nothing = omega arith
   spare-held (waiting.On w) = lighter (tree img (w .number)) (light img (w .number) s)
 
-  pub event-drops : (e : Event) (layout : Layout) → event T e (unpack img layout) .dropped ≤ 127
-  event-drops e layout = omega (arith, event-within T _ Calm spare 64 measured e (unpack img layout) (calm-held img (waitsIn layout) s), spare-held (waitsIn layout))
+  pub event-drops : (e : Event) (layout : Layout) → event T e (unpack img layout) .dropped ≤ 124
+  event-drops e layout = omega (arith, event-within T _ Calm spare 63 measured e (unpack img layout) (calm-held img (waitsIn layout) s), spare-held (waitsIn layout))
 
-  pub tick-drops : (layout : Layout) → tick T (unpack img layout) .dropped ≤ 64
-  tick-drops layout = tick-within T _ Calm spare 64 measured (unpack img layout) (calm-held img (waitsIn layout) s) 64 (le-refl 64) (omega (arith, spare-held (waitsIn layout)))
+  pub tick-drops : (layout : Layout) → tick T (unpack img layout) .dropped ≤ 63
+  tick-drops layout = tick-within T _ Calm spare 63 measured (unpack img layout) (calm-held img (waitsIn layout) s) 63 (le-refl 63) (omega (arith, spare-held (waitsIn layout)))

@@ -1,8 +1,8 @@
 -- What the count of dropped states is worth: document 02, W-202. The count is that of the layout's steps: `push` drops a 65th
 -- state (crates/layout/specs/Actions.antt), and each step leaves how many were dropped in it (Model.antt: Done).
 --     Missing      what an action drops is just what it would hold more, had it room for any number of states
---     Told         whatever the image, the layout and the buffer, an answer tells just what its call dropped: in a tick at most 64,
---                  in an event at most 127, and where the call is refused none
+--     Told         whatever the image, the layout and the buffer, an answer tells just what its call dropped: in a tick at most 63,
+--                  in an event at most 124, and where the call is refused none
 --     NoneShown    `keycodes` tells none
 --     AddUp        the counts of a run add up to what its steps dropped
 --     Same         by `push`, the steps of specs/Adding.antt are the layout's own
@@ -56,10 +56,10 @@ droppedIf (Refused refusal place) done = 0
 abbrev pub droppedBy : List ℕ → Call → Layout → List ℕ → ℕ
 droppedBy image k layout buffer = droppedIf (judgedOf image layout (length buffer)) (step image k layout)
 
--- how many a call drops at most
+-- how many a call drops at most. Both are reached (specs/DroppedCases.antt: most-in-a-tick, most-in-an-event)
 abbrev pub mostDropped : Call → ℕ
-mostDropped Tick = 64
-mostDropped (Enter e) = 127
+mostDropped Tick = 63
+mostDropped (Enter e) = 124
 
 -- the count that an answer tells
 abbrev pub countIn : Reply → ℕ

@@ -1,4 +1,4 @@
--- Cases of document 02, W-202, computed as those of specs/Bench.antt are: calls on a fresh layout over a table whose keys fill it,
+-- Cases of document 02, W-202, computed as those of specs/Bench.antt are: calls on a fresh layout over tables whose keys fill it,
 -- with 62, 63 and 64 states held. Of each answer the case has how many codes it tells, and how many states were dropped.
 -- Assumes nothing.
 use Prim.Native.Nat.{ℕ}
@@ -11,10 +11,10 @@ use Rattle.layout.specs.Packed.{pack}
 use Rattle.layout.specs.Calls.{Reply}
 use Rattle.demands.specs.Runs.{Call, Tick, Enter}
 use Rattle.demands.specs.Public.{lentAll, replies}
-use Rattle.demands.specs.Z.{crowded, lent}
+use Rattle.demands.specs.Z.{crowded, heaviest, lent}
 use Rattle.demands.specs.Dropped.{countIn}
 
--- the keys of the table, pressed: sixty-two codes; one; five states; and five when held, one when tapped
+-- the keys of the first table, pressed: sixty-two codes; one; five states; and five when held, one when tapped
 abbrev pub many : Call
 many = Enter (Press 0 0)
 
@@ -28,12 +28,22 @@ abbrev pub fiveOrOne : Call
 fiveOrOne = Enter (Press 0 3)
 
 -- how many codes each answer tells, and how many states were dropped in its call
+unfoldable pub countsOf : List ℕ → List Call → List (ℕ × ℕ)
+countsOf image calls = map (λ (r : Reply). (r .told .codes, countIn r)) (replies image (lentAll lent calls) (pack fresh))
+
 unfoldable pub counts : List Call → List (ℕ × ℕ)
-counts calls = map (λ (r : Reply). (r .told .codes, countIn r)) (replies crowded (lentAll lent calls) (pack fresh))
+counts calls = countsOf crowded calls
 
 -- the same of calls on a layout of 64 states, which six calls fill
 unfoldable pub countsFull : List Call → List (ℕ × ℕ)
 countsFull calls = drop 6 (counts (many ∷ Tick ∷ one ∷ Tick ∷ one ∷ Tick ∷ calls))
+
+-- the keys of the second table, each as heavy as may be
+abbrev pub heavy : Call
+heavy = Enter (Press 0 0)
+
+abbrev pub heldHeavy : Call
+heldHeavy = Enter (Press 0 1)
 
 pub record Cases : Type 0 where
   -- a 63rd and a 64th state are kept; a 65th is dropped
@@ -51,3 +61,10 @@ pub record Cases : Type 0 where
   pub by-seventeenth : countsFull (fiveOrOne ∷ Tick ∷ replicate 17 one) ≡ replicate 18 (64, 0) ++ ((64, 6) ∷ [])
   -- what a release makes room for is kept again
   pub room-again : countsFull (Enter (Release 0 1) ∷ Tick ∷ one ∷ Tick ∷ []) ≡ (64, 0) ∷ (62, 0) ∷ (62, 0) ∷ (63, 0) ∷ []
+  -- the most that a tick drops; and an event, which decides what waits and acts on a press
+  pub most-in-a-tick :
+      countsOf heaviest (heavy ∷ Tick ∷ heavy ∷ Tick ∷ heavy ∷ Tick ∷ [])
+      ≡ (0, 0) ∷ (63, 0) ∷ (63, 0) ∷ (64, 62) ∷ (64, 0) ∷ (64, 63) ∷ []
+  pub most-in-an-event :
+      drop 4 (countsOf heaviest (heavy ∷ Tick ∷ heavy ∷ Tick ∷ heldHeavy ∷ Tick ∷ replicate 17 heavy))
+      ≡ replicate 18 (64, 0) ++ ((64, 124) ∷ [])

@@ -3,8 +3,9 @@
 //!
 //! Assumes: what is refused, the acted-on event, the decisions and the number of dropped states are the paper's to
 //! say, since the Rust has no images and tells codes alone. From an accepted image on the Rust runs beside the
-//! paper, which is held to its codes, until a line sets a part: the Rust's fields are private, so the paper goes on
-//! alone.
+//! paper, until a line sets a part: the Rust's fields are private, so the paper goes on alone. The paper is held to
+//! the Rust's codes, and its number of dropped states to what the Rust's vector handed back in the call, which the
+//! Rust does not look at.
 
 use super::both::agreed;
 use super::Adapter;
@@ -68,7 +69,11 @@ impl Keys {
         };
         let mut answer = codes_text(&self.paper.layout().codes());
         if let Some(layout) = &mut self.rust {
-            answer = agreed(layout.answer(|layout| rust_codes(layout, call)), answer);
+            let paper = with_dropped(&answer, dropped(&marks));
+            let rust = layout.answer(|layout| rust_told(layout, call));
+            if rust != paper {
+                answer = agreed(rust, paper);
+            }
         }
         push_marks(&mut answer, &marks);
         answer
@@ -77,6 +82,18 @@ impl Keys {
 
 pub fn codes_text(codes: &[u8]) -> String {
     format!("codes {}", words::to_hex(codes))
+}
+
+/// What the paper is held to.
+fn with_dropped(codes: &str, count: usize) -> String {
+    format!("{codes} and {count} dropped")
+}
+
+/// The Rust's codes after a call, and how many states found no place in it.
+fn rust_told(layout: &mut rust::Layout, call: Call) -> String {
+    heapless::take_handed_back();
+    let codes = rust_codes(layout, call);
+    with_dropped(&codes, heapless::take_handed_back())
 }
 
 pub fn rust_codes(layout: &mut rust::Layout, call: Call) -> String {
@@ -331,7 +348,7 @@ mod tests {
         let got = answers(&mut keys, &["t"]);
         assert_eq!(
             got,
-            ["! rust: codes -; paper: codes 2c | acted p 0 1 | decided - | dropped 0"]
+            ["! rust: codes - and 0 dropped; paper: codes 2c and 0 dropped | acted p 0 1 | decided - | dropped 0"]
         );
     }
 }

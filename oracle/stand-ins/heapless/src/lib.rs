@@ -3,7 +3,10 @@
 //! Kept of the real crate: a push on a full vector changes nothing and hands the element back as `Err`;
 //! collecting more elements than the capacity panics; the vector reads as a slice, in order of pushing.
 //! Not kept: that nothing is allocated.
+//! Added: how many elements were handed back. keyberon does not look at what a push answers, so this is all that
+//! tells of a state that it dropped.
 
+use std::cell::Cell;
 use std::iter::FromIterator;
 use std::marker::PhantomData;
 use std::ops::Deref;
@@ -22,6 +25,15 @@ pub mod consts {
     }
 }
 
+thread_local! {
+    static HANDED_BACK: Cell<usize> = const { Cell::new(0) };
+}
+
+/// How many elements pushes have handed back on this thread since this was last asked.
+pub fn take_handed_back() -> usize {
+    HANDED_BACK.with(|count| count.replace(0))
+}
+
 pub struct Vec<T, N> {
     items: std::vec::Vec<T>,
     capacity: PhantomData<N>,
@@ -37,6 +49,7 @@ impl<T, N: Capacity> Vec<T, N> {
 
     pub fn push(&mut self, item: T) -> Result<(), T> {
         if self.items.len() == N::PLACES {
+            HANDED_BACK.with(|count| count.set(count.get() + 1));
             return Err(item);
         }
         self.items.push(item);
@@ -70,13 +83,14 @@ impl<T, N: Capacity> FromIterator<T> for Vec<T, N> {
 
 #[cfg(test)]
 mod tests {
-    use super::{consts::U64, Vec};
+    use super::{consts::U64, take_handed_back, Vec};
 
     #[test]
     fn the_65th_comes_back() {
         let mut full: Vec<u8, U64> = (0..64).collect();
         assert_eq!(full.push(200), Err(200));
         assert_eq!(full.len(), 64);
+        assert_eq!((take_handed_back(), take_handed_back()), (1, 0));
     }
 
     #[test]
