@@ -8,7 +8,7 @@ use lib.ListN.{getD}
 use Rattle.refusal.specs.Number.{numberOf}
 use Rattle.refusal.specs.Said.{Said, said}
 use Rattle.refusal.specs.declared.Refusal.{Refusal}
-use Rattle.refusal.specs.declared.Refusal.the-variants.{Short, Header, Length, Cell, Record, Code, Child, Nested, Weight, Scan, Bounce, Room, State, Request, Text}
+use Rattle.refusal.specs.declared.Refusal.the-variants.{Short, Header, Length, Cell, Record, Code, Child, Nested, Weight, Scan, Bounce, Room, State, Request, Text, Shape}
 use Rattle.refusal.specs.declared.Verdict.{Verdict}
 use Rattle.refusal.specs.declared.Verdict.the-variants.{Fine, Refused}
 
@@ -16,7 +16,7 @@ use Rattle.refusal.specs.declared.Verdict.the-variants.{Fine, Refused}
 abbrev pub refusalOf : ℕ → Refusal
 refusalOf n =
     getD
-    (Short ∷ Short ∷ Header ∷ Length ∷ Cell ∷ Record ∷ Code ∷ Child ∷ Nested ∷ Weight ∷ Scan ∷ Bounce ∷ Room ∷ State ∷ Request ∷ Text ∷ [])
+    (Short ∷ Short ∷ Header ∷ Length ∷ Cell ∷ Record ∷ Code ∷ Child ∷ Nested ∷ Weight ∷ Scan ∷ Bounce ∷ Room ∷ State ∷ Request ∷ Text ∷ Shape ∷ [])
     n Short
 
 pub number-back : (r : Refusal) → refusalOf (numberOf r) ≡ r
@@ -35,6 +35,7 @@ number-back Room = refl
 number-back State = refl
 number-back Request = refl
 number-back Text = refl
+number-back Shape = refl
 
 pub number-some : (r : Refusal) → eqb (numberOf r) 0 ≡ false
 number-some Short = refl
@@ -52,6 +53,7 @@ number-some Room = refl
 number-some State = refl
 number-some Request = refl
 number-some Text = refl
+number-some Shape = refl
 
 -- an answer that is an enum with a case for its values and one for a refusal: what is said of it gives it back
 abbrev pub answerBack : {A X : Type 0} → (A → X) → (Refusal → ℕ → X) → Said A → X

@@ -1,8 +1,8 @@
--- The numbers of document 01, "Refusal numbers", and behind them those of document 02: 15 is of W-201.
+-- The numbers of document 01, "Refusal numbers", and behind them those of document 02: 15 is of W-201, 16 of W-203.
 -- Assumes nothing.
 use Prim.Native.Nat.{ℕ}
 use Rattle.refusal.specs.declared.Refusal.{Refusal}
-use Rattle.refusal.specs.declared.Refusal.the-variants.{Short, Header, Length, Cell, Record, Code, Child, Nested, Weight, Scan, Bounce, Room, State, Request, Text}
+use Rattle.refusal.specs.declared.Refusal.the-variants.{Short, Header, Length, Cell, Record, Code, Child, Nested, Weight, Scan, Bounce, Room, State, Request, Text, Shape}
 
 abbrev pub numberOf : Refusal → ℕ
 numberOf Short = 1
@@ -20,3 +20,4 @@ numberOf Room = 12
 numberOf State = 13
 numberOf Request = 14
 numberOf Text = 15
+numberOf Shape = 16

@@ -22,6 +22,7 @@ pub enum Refusal {
     State,
     Request,
     Text,
+    Shape,
 }
 
 impl Refusal {
@@ -45,6 +46,7 @@ impl Refusal {
             Refusal::State => 13,
             Refusal::Request => 14,
             Refusal::Text => 15,
+            Refusal::Shape => 16,
         }
     }
 }
