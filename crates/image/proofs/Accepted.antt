@@ -31,7 +31,7 @@ use Rattle.image.specs.Table.{tableOf, treeIn, longestBelow, timesOf}
 use Rattle.lists.specs.Lists.{every}
 use Rattle.lists.proofs.Laws.{both-true, every-head}
 use Rattle.refusal.specs.Verdict.{firstFault}
-use Rattle.image.specs.Check.{headFault, cellFault, recordFault, bodyFault, faultOf, answer, checkOf}
+use Rattle.image.specs.Check.{headFault, cellFault, recordFault, bodyFault, faultOf, checkOf}
 use Rattle.image.specs.Sound.{Sound, Meant}
 use Rattle.image.specs.Use.{areaOf, sourceOf}
 use Rattle.image.specs.declared.words.Shape.{Shape}
@@ -40,13 +40,13 @@ use Rattle.image.specs.declared.record.Action.the-variants as code
 use Rattle.image.specs.declared.record.Cell.{Cell}
 use Rattle.image.specs.declared.record.Cell.the-variants as cell
 use Rattle.image.specs.declared.record.Entry.the-variants as entry
-use Rattle.refusal.specs.declared.Verdict.{Verdict}
-use Rattle.refusal.specs.declared.Verdict.the-variants.{Fine, Refused}
+use Rattle.refusal.specs.declared.Verdict.the-variants.{Fine}
 use Rattle.image.specs.declared.rules.Checked.the-variants.{Accepted}
 use Rattle.image.specs.declared.areas.Source.the-variants.{Operator, BuiltIn}
 use Rattle.refusal.proofs.Verdicts.{rule-fine, or-fine, fine-all}
 use Rattle.image.proofs.Said.{action-one}
 use Rattle.image.proofs.Tests.{not-or}
+use Rattle.image.proofs.Faults.{fault-fine}
 use Rattle.image.proofs.HeaderRules.{framed, cell-kept}
 use Rattle.image.proofs.Entries.{all-at, two-of, below-byte}
 use Rattle.image.proofs.Trees.{meant, either, by-kind}
@@ -65,15 +65,9 @@ sound img e =
       records = λ n l. good img n l (fine-all (recordFault img) (recordsOf img) (q .1) n l);
     }
 
-is-accepted : (f : Verdict) (s t : Shape) → answer f s ≡ Accepted t → (f ≡ Fine) × (t ≡ s)
-unfolding answer
-is-accepted Fine s t e = (refl, cc)
-is-accepted (Refused r p) s t e = (cc, cc)
-
 pub accepted : (img : List ℕ) (s : Shape) → checkOf img ≡ Accepted s → (s ≡ shapeOf img) × Sound img
-unfolding checkOf
 accepted img s e =
-    let h = is-accepted (faultOf img) (shapeOf img) s e in
+    let h = fault-fine img s e in
     (h .1, sound img (h .0))
 
 area-sound : (area : List ℕ) (s : Shape) → areaOf area ≡ Accepted s → (sizeOf area ≤ length area) × Sound (take (sizeOf area) area)

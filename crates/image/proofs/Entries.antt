@@ -103,7 +103,7 @@ words-all img at n =
 
 -- one of them, and those after it: every loop over words rests on this
 module _ (img : List ℕ) (at n i : ℕ) where
-  words-step : i < n → wordsAfter img at n i ≡ wordAt img (at + 2 * i) ∷ wordsAfter img at n (i + 1)
+  pub words-step : i < n → wordsAfter img at n i ≡ wordAt img (at + 2 * i) ∷ wordsAfter img at n (i + 1)
   unfolding wordsFrom
   words-step h =
       let k : n - i ≡ suc (n - (i + 1)) = omega arith in

@@ -1,4 +1,5 @@
 pub mod Said
+pub mod Faults
 pub mod Tests
 pub mod HeaderRules
 pub mod Entries

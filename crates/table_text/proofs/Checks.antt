@@ -1,15 +1,14 @@
--- What the image's check says of a verdict, and the replies that follow from it. Assumes nothing.
+-- The replies that follow from the image's check. Assumes nothing.
 use Prim.Native.Nat.{ℕ, _<_, _≤_}
 use mathlib.Core.List.{List}
-use mathlib.Core.Path.{_≡_, refl, sym, _∙_}
+use mathlib.Core.Path.{_≡_, sym, _∙_}
 use borrow.Author.Tests.{le-leb, lt-leb}
 use lib.Dec.{leb}
 use lib.ListN.{length}
-use Rattle.image.specs.Check.{faultOf, answer, checkOf}
-use Rattle.image.specs.Words.{shapeOf}
-use Rattle.image.specs.declared.words.Shape.{Shape}
+use Rattle.image.specs.Check.{faultOf, checkOf}
 use Rattle.image.specs.declared.rules.Checked.{Checked}
 use Rattle.image.specs.declared.rules.Checked.the-variants as checked
+use Rattle.image.proofs.Faults.{fault-refused}
 use Rattle.lists.specs.Lists.{laid}
 use Rattle.refusal.specs.Verdict.{rule, orElse}
 use Rattle.refusal.specs.declared.Refusal.{Refusal}
@@ -19,28 +18,6 @@ use Rattle.refusal.specs.declared.Verdict.the-variants.{Fine, Refused}
 use Rattle.table_text.specs.Inside.{refusedAs}
 use Rattle.table_text.specs.Made.{Reply, replyOf, Replies}
 use Rattle.table_text.specs.declared.Made.the-variants as made
-
-is-refused : (f : Verdict) (s : Shape) (r : Refusal) (p : ℕ) → answer f s ≡ checked.Refused r p → f ≡ Refused r p
-unfolding answer
-is-refused Fine s r p e = cc
-is-refused (Refused q k) s r p e = cc
-
-pub fault-refused : (img : List ℕ) (r : Refusal) (p : ℕ) → checkOf img ≡ checked.Refused r p → faultOf img ≡ Refused r p
-unfolding checkOf
-fault-refused img r p e = is-refused (faultOf img) (shapeOf img) r p e
-
-is-fine : (f : Verdict) (s t : Shape) → answer f s ≡ checked.Accepted t → f ≡ Fine
-unfolding answer
-is-fine Fine s t e = refl
-is-fine (Refused q k) s t e = cc
-
-pub fault-fine : (img : List ℕ) (s : Shape) → checkOf img ≡ checked.Accepted s → faultOf img ≡ Fine
-unfolding checkOf
-fault-fine img s e = is-fine (faultOf img) (shapeOf img) s e
-
-pub check-fine : (img : List ℕ) → faultOf img ≡ Fine → checkOf img ≡ checked.Accepted (shapeOf img)
-unfolding checkOf answer
-check-fine img e = rw e
 
 -- a verdict on bytes, and then Room
 abbrev pub within : Verdict → List ℕ → List ℕ → Reply

@@ -22,7 +22,7 @@ use Rattle.text.proofs.Laws.{place-past}
 use Rattle.text.specs.Text.{decimalOf}
 use Rattle.table_text.specs.Longest.{LongestText}
 use Rattle.table_text.specs.Print.{rowsFrom, lineOf, textFrom, textOf}
-use Rattle.table_text.proofs.Checks.{check-fine}
+use Rattle.image.proofs.Faults.{check-fine}
 use Rattle.table_text.proofs.Decimal.{place-short, decimal-short}
 use Rattle.table_text.proofs.Printed.{line-short, text-is}
 

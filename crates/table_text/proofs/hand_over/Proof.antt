@@ -5,9 +5,10 @@ use borrow.Author.Needs.{needs}
 use denote.Ref.{now}
 use lib.ListN.{length, drop}
 use lib.Seq.{take-length}
+use Rattle.image.proofs.Faults.{fault-fine}
 use Rattle.image.proofs.Said.{said-one}
 use Rattle.table_text.specs.Inside.{checkedReply}
-use Rattle.table_text.proofs.Checks.{fault-fine, reply-refused, reply-short, reply-laid}
+use Rattle.table_text.proofs.Checks.{reply-refused, reply-short, reply-laid}
 use Rattle.table_text.proofs.hand_over.Statement.{statement}
 use Rattle.table_text.proofs.hand_over.Tie as tie
 
@@ -27,7 +28,7 @@ returns-2 c =
     let asked = told .before .before in
     let a = asked .before .before .before .args in
     let img = now (a .image) in
-    let fine = fault-fine img _ (sym (said-one _ _ (asked .check .ensures)) ∙ told .enum-told .given .1) in
+    let fine = fault-fine img _ (sym (said-one _ _ (asked .check .ensures)) ∙ told .enum-told .given .1) .0 in
     reply-short img img (now (a .out)) fine (c .if1 .taken)
 
 returns-3 : tie.Need-returns-3
@@ -39,7 +40,7 @@ returns-3 c =
     let asked = told .before .before in
     let a = asked .before .before .before .args in
     let img = now (a .image) in
-    let fine = fault-fine img _ (sym (said-one _ _ (asked .check .ensures)) ∙ told .enum-told .given .1) in
+    let fine = fault-fine img _ (sym (said-one _ _ (asked .check .ensures)) ∙ told .enum-told .given .1) .0 in
     let laid = copied .copy .ensures .1 ∙ ap (λ l. l ++ drop (length img) (now (a .out))) (take-length img) in
     reply-laid img img (now (a .out)) fine _ _ (tested .if1 .left) (copied .copy .ensures .0) laid
 

@@ -7,12 +7,13 @@ use native.Mathlib.Omega.{arith}
 use lib.ListN.{length}
 use Rattle.image.specs.Check.{faultOf}
 use Rattle.image.proofs.Accepted.{accepted}
+use Rattle.image.proofs.Faults.{fault-fine}
 use Rattle.image.proofs.Said.{said-one}
 use Rattle.refusal.specs.declared.Verdict.the-variants.{Fine}
 use Rattle.table_text.specs.Inside.{Headed}
 use Rattle.table_text.specs.Print.{textOf, printVerdict, printReply}
 use Rattle.table_text.proofs.Laid.{sets-front}
-use Rattle.table_text.proofs.Checks.{fault-fine, reply-refused, reply-short, reply-laid}
+use Rattle.table_text.proofs.Checks.{reply-refused, reply-short, reply-laid}
 use Rattle.table_text.proofs.print.Statement.{statement}
 use Rattle.table_text.proofs.print.Tie as tie
 
@@ -29,7 +30,7 @@ returns c =
 fine : (c : tie.After-checked) → faultOf (now (c .before .before .before .before .before .args .image)) ≡ Fine
 fine c =
     let asked = c .before .before in
-    fault-fine (now (asked .before .before .before .args .image)) _ (sym (said-one _ _ (asked .check .ensures)) ∙ c .checked .given .1)
+    fault-fine (now (asked .before .before .before .args .image)) _ (sym (said-one _ _ (asked .check .ensures)) ∙ c .checked .given .1) .0
 
 headed : (c : tie.After-checked) → Headed (now (c .before .before .before .before .before .args .image)) (c .checked .given .0 .0)
 headed c =
