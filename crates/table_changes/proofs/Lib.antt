@@ -1,0 +1,9 @@
+pub mod Same
+pub mod Verdicts
+pub mod Words
+pub mod Nodes
+pub mod Meets
+pub mod Places
+pub mod Replies
+pub mod Unique
+pub mod Listed

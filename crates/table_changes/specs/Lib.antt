@@ -1,0 +1,4 @@
+pub mod Same
+pub mod Changes
+pub mod Listed
+pub mod Inside
