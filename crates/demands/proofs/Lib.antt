@@ -16,3 +16,6 @@ pub mod Adding
 pub mod Drops
 pub mod Dropped
 pub mod DroppedCases
+pub mod Unnumbered
+pub mod Unchanged
+pub mod ChangedCases

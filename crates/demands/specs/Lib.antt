@@ -11,3 +11,5 @@ pub mod Ties
 pub mod Adding
 pub mod Dropped
 pub mod DroppedCases
+pub mod Unchanged
+pub mod ChangedCases
