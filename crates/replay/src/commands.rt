@@ -4,6 +4,7 @@ use super::words;
 pub enum Command {
     Table(Table),
     Texts(Texts),
+    Compare,
     Buffer(Buffer),
     Call(Call),
     Part(Part),
@@ -116,6 +117,7 @@ fn of_rest(place: usize) -> Command {
         28 => Command::Board(Board::Descriptor),
         29 => Command::Texts(Texts::Write),
         30 => Command::Texts(Texts::Print),
+        31 => Command::Compare,
         _ => Command::Unread,
     }
 }
@@ -151,7 +153,7 @@ fn next(forms: &[u8], at: usize) -> usize {
 fn find(line: &[u8], forms: &[u8]) -> Asked {
     let mut at = 0;
     let mut place = 0;
-    while place < 31 {
+    while place < 32 {
         let of = fit(line, forms, at);
         if of[0] == 0 {
             return Asked {
@@ -177,6 +179,6 @@ pub fn read(line: &[u8]) -> Asked {
           default n counts nn state sKbbb state sLnbb queue qPbbn queue qRbbn wait bbnn idle  \
           debounce nnn- debouncer nnnn-- scan - update - picture  \
           report - get bb set bb- rate b idling bn clock n descriptor  \
-          write -n print -n",
+          write -n print -n compare --n",
     )
 }

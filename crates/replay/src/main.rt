@@ -4,6 +4,7 @@
 mod board;
 mod bounce;
 mod calls;
+mod changes;
 mod commands;
 mod parts;
 mod say;
@@ -167,6 +168,14 @@ fn answer(line: &[u8], table: &mut [u8; table::ROOM], desk: Desk) -> Done {
         Command::Texts(asked) => Done {
             desk,
             text: texts::answer(asked, words::hex_at(line, 1), words::low_word(of[2])),
+        },
+        Command::Compare => Done {
+            desk,
+            text: changes::answer(
+                words::hex_at(line, 1),
+                words::hex_at(line, 2),
+                words::low_word(of[3]),
+            ),
         },
         Command::Buffer(asked) => on_buffer(asked, of[1], line, desk),
         Command::Call(call) => on_call(call, of, table, desk),

@@ -1,10 +1,11 @@
-// The lines of a table's text: `write`, `print`. An answer may be longer than a `Text`, so all but its last piece is
-// written here. Assumes nothing.
+// The lines of a table's text: `write`, `print`; and the answer to a call that makes bytes, which `compare` gives too. It may be
+// longer than a `Text`, so all but its last piece is written here. Assumes nothing.
 use super::commands::Texts;
 use super::say;
 use super::say::FILL;
 use super::words::Bytes;
 use libc::STDOUT_FILENO;
+use refusal::Told;
 use table_text::Made;
 use text::Text;
 use text::front;
@@ -45,20 +46,17 @@ fn written(made: Made) -> usize {
     }
 }
 
-// The result in hex; `spilt` where a byte past it was written. `Text::put_number` puts five digits; no place has more:
-// a line of 65,536 bytes holds a text of at most 32,764, whose first line at fault is at most the 32,765th.
-fn told(said: Text, made: Made, out: &[u8]) -> Text {
-    let count = written(made);
+// The result in hex, as many bytes as a call says that it made; `spilt` where one past them was written. `Text::put_number` puts
+// five digits; no place has more: a line of 65,536 bytes holds a text of at most 32,764, whose first line at fault is at most
+// the 32,765th.
+pub fn told(said: Text, count: usize, refusal: Told, out: &[u8]) -> Text {
     if !say::is_filled(out, count) {
         return say::text(b"spilt");
     }
-    match made {
-        Made::Bytes(_) => put_long(said, front(out, count)),
-        Made::Refused(_, _) => {
-            let told = made.told();
-            say::refused(told.number, told.place)
-        }
+    if refusal.number != 0 {
+        return say::refused(refusal.number, refusal.place);
     }
+    put_long(said, front(out, count))
 }
 
 fn called(asked: Texts, bytes: &[u8], out: &mut [u8]) -> Made {
@@ -71,7 +69,7 @@ fn called(asked: Texts, bytes: &[u8], out: &mut [u8]) -> Made {
 // A call into a lent buffer, and its answer.
 fn answered(asked: Texts, bytes: &[u8], out: &mut [u8]) -> Text {
     let made = called(asked, bytes, out);
-    told(first_word(asked), made, out)
+    told(first_word(asked), written(made), made.told(), out)
 }
 
 // A call into a buffer of as many bytes as there is room.
