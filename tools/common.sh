@@ -1,9 +1,9 @@
-# What tools/panel and tools/table share, sourced by both: messages, files, and what a refused table's number and place are in
-# words. Those are the words of the first table in docs/REFUSALS.md.
+# What tools/panel, tools/table and tools/compare-tables share, sourced by each: messages, files, and what a refused table's number
+# and place are in words. Those are the words of the first table in docs/REFUSALS.md.
 #
-# Assumes: `root` is the repository's folder, `tool` the command's name; head has -c. The words of a refusal are about
-# table.img in the temporary folder.
-# shellcheck shell=sh disable=SC2154 # `root` and `tool` are the sourcing file's
+# Assumes: `root` is the repository's folder, `tool` the command's name, `trouble` its exit status where it fails; head has -c.
+# The words of a refusal are about table.img in the temporary folder.
+# shellcheck shell=sh disable=SC2154 # `root`, `tool` and `trouble` are the sourcing file's
 
 # The largest table has so many bytes. The programs read one more and no other: by that they refuse a longer one.
 largest=6160
@@ -14,7 +14,7 @@ say() {
 
 fail() {
     say "$tool: $1"
-    exit 1
+    exit "$trouble"
 }
 
 readable() {
