@@ -27,6 +27,7 @@ readable() {
 make_folder() {
     partial=
     folder=$(mktemp -d 2>/dev/null) || fail "no temporary folder can be made${TMPDIR:+ in $TMPDIR}"
+    case $folder in /*) ;; *) folder=./$folder ;; esac # else a = in it is an assignment to awk, and cd may look it up elsewhere
     trap 'rm -rf "$folder" ${partial:+"$partial"}' EXIT
     trap 'exit 129' HUP
     trap 'exit 130' INT
