@@ -51,6 +51,10 @@ pub record Sized (rows columns cells : ℕ) : Type 0 where
   pub few : cells ≤ 8 * rows * columns
   pub small : cells ≤ 1024
 
+-- a buffer with room for a cell behind so many
+abbrev pub RoomFor : ℕ → List ℕ → Type 0
+RoomFor count out = (count < 1024) × (3 * count + 3 ≤ length out)
+
 -- cell i, if it differs, is one more behind so many in a buffer: how many there are then, and the buffer then
 abbrev pub AddedTo : List ℕ → List ℕ → ℕ → ℕ → ℕ → ℕ → List ℕ → ℕ → List ℕ → Type 0
 AddedTo first second rows columns i count out more after =

@@ -7,7 +7,7 @@ ghost use Prim.Native.Nat.{_+_, _*_, _<_, _≤_};
 ghost use lib.ListN.{length};
 ghost use Rattle.image.specs.Sound.{Sound};
 ghost use Rattle.table_changes.specs.Changes.{differs};
-ghost use Rattle.table_changes.specs.Inside.{Sized, AddedTo, ListedTo};
+ghost use Rattle.table_changes.specs.Inside.{Sized, RoomFor, AddedTo, ListedTo};
 
 // Whether the action of cell i is another one.
 fn differs(first: &[u8], second: &[u8], i: usize) -> bool
@@ -33,7 +33,7 @@ fn list_cell(
     out: &mut [u8],
     count: usize,
 ) -> usize
-    requires { ⌜ Sound (now first) × Sound (now second) × Sized rows columns (i + 1) × (count < 1024) × (3 * count + 3 ≤ length (now out)) ⌝ }
+    requires { ⌜ Sound (now first) × Sound (now second) × Sized rows columns (i + 1) × RoomFor count (now out) ⌝ }
     ensures { λ r. ⌜ AddedTo (now (first .entry)) (now (second .entry)) rows columns i count (now (out .entry)) r (now (out .exit)) ⌝ }
 {
     if !differs(first, second, i) {

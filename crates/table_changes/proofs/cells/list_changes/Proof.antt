@@ -35,7 +35,7 @@ list-cell-requires c κs =
     let inside = c .before .loop-test .taken in
     let s = p .2 in
     let sized : Sized (c .before .before .before .before .before .before .args .rows) (c .before .before .before .before .before .before .args .columns) (l .i + 1) = record { some-rows = s .some-rows; some-columns = s .some-columns; few-columns = s .few-columns; few-rows = s .few-rows; few = omega (arith, s .few); small = omega (arith, s .small) } in
-    (p .0, p .1, sized, omega (arith, s .small, l .inv .1), omega (arith, p .3, l .inv .1, l .inv .2))
+    (p .0, p .1, sized, (omega (arith, s .small, l .inv .1), omega (arith, p .3, l .inv .1, l .inv .2)))
 
 loop-again : tie.Need-loop-again Inv-loop μ-loop
 loop-again c =
