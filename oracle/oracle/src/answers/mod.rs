@@ -6,6 +6,7 @@
 //! together (`both`), and an object of the Rust that has panicked is not asked again (`guard`).
 
 pub mod both;
+mod changes;
 pub mod codes;
 mod debouncer;
 mod keyboard;

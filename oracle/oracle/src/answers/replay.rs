@@ -6,7 +6,7 @@
 use super::debouncer::Bounces;
 use super::keyboard::Board;
 use super::layout::Keys;
-use super::{codes, text, Adapter, UNREADABLE};
+use super::{changes, codes, text, Adapter, UNREADABLE};
 use crate::paper::areas;
 use crate::{guard, words};
 use std::io::{self, BufRead, BufWriter, Write};
@@ -53,6 +53,7 @@ impl Replay {
                 _ => None,
             },
             b"write" | b"print" => text::answer(command, rest),
+            b"compare" => changes::answer(rest),
             b"debounce" | b"debouncer" | b"scan" | b"update" | b"picture" | b"space" => {
                 self.bounces.answer(command, rest)
             }
@@ -186,5 +187,55 @@ mod tests {
         assert_eq!(got[4], "codes - | acted - | decided - | dropped 0");
         assert_eq!(got[7], "codes e0 | acted - | decided hold 0 0 | dropped 0");
         assert_eq!(answers(&[&write, "t"])[1], "refused 1 0");
+    }
+
+    #[test]
+    fn tables_are_compared() {
+        let z = words::to_hex(&Z);
+        // the second cell names the other code
+        let other = z.replacen("03000100", "03000200", 1);
+        for (line, answer) in [
+            (format!("compare {z} {z} 6"), "cells -"),
+            (format!("compare {z} {other} 6"), "cells 000001"),
+            (format!("compare {other} {z} 00006"), "cells 000001"),
+            (format!("compare {z} {z} 5"), "refused 12 0"),
+            (format!("compare {z} {z}00 6"), "refused 3 0"),
+            (format!("compare - {z} 65535"), "refused 1 0"),
+            ("compare - - 0".to_string(), "refused 1 0"),
+        ] {
+            assert_eq!(answers(&[&line]), [answer], "{line}");
+        }
+    }
+
+    #[test]
+    fn lines_that_compare_are_strict() {
+        let z = words::to_hex(&Z);
+        for line in [
+            "compare".to_string(),
+            format!("compare {z} {z}"),
+            format!("compare {z} 6"),
+            format!("compare {z} {z} 6 6"),
+            format!("compare {z} {z} 65536"),
+            format!("compare {z} {z} 000006"),
+            format!("compare {z} {z} -"),
+            format!("compare {z} {z}0 6"),
+            format!("compare {z}0 {z} 6"),
+            format!("compare {}A {z} 6", &z[1..]),
+            format!("compare {z}  {z} 6"),
+            format!("compares {z} {z} 6"),
+        ] {
+            assert_eq!(answers(&[&line]), [UNREADABLE], "{line}");
+        }
+    }
+
+    #[test]
+    fn comparing_leaves_the_image_and_its_layout() {
+        let z = words::to_hex(&Z);
+        let (image, compare) = (format!("image {z}"), format!("compare {z} {z} 6"));
+        let got = answers(&[&image, "p 0 0", "t", &compare, "t", "compare - - 0", "t"]);
+        assert_eq!([&got[3], &got[5]], ["cells -", "refused 1 0"]);
+        assert_eq!(got[4], "codes - | acted - | decided - | dropped 0");
+        assert_eq!(got[6], "codes e0 | acted - | decided hold 0 0 | dropped 0");
+        assert_eq!(answers(&[&compare, "t"]), ["cells -", "refused 1 0"]);
     }
 }

@@ -3,6 +3,7 @@
 
 pub mod areas;
 pub mod calls;
+pub mod changes;
 pub mod debounce;
 pub mod idle;
 pub mod image;
@@ -13,6 +14,7 @@ pub mod state;
 pub mod text;
 pub mod times;
 
-/// The refusals that calls on a debouncer and on a layout share; the first is of the writer and the printer too.
+/// The refusals that calls on a debouncer and on a layout share; the first is of the writer, the printer and the
+/// comparison of two tables too.
 pub const ROOM: u8 = 12;
 pub const STATE: u8 = 13;
