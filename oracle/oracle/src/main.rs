@@ -26,7 +26,8 @@ usage: oracle replay                             answer the script on standard i
        oracle panel IMAGE                        print what panel must, lines on standard input
        oracle names                              print the names and values of the key codes
        oracle generate KIND COUNT SEED           print a script; KIND is: codes, image, areas,
-                                                 texts, debounce, layout, states, drops, keyboard
+                                                 texts, changes, debounce, layout, states, drops,
+                                                 keyboard
        oracle compare-names FILE..               hold the constants in these .rt files to the names
        oracle compare KIND N SEED -- COMMAND..   hold COMMAND's answers to the oracle's
        oracle drains N SEED                      drain N layouts and hold each to demand 3

@@ -6,6 +6,7 @@
 
 pub mod names;
 pub mod panel;
+mod promise;
 mod shrink;
 mod side;
 
@@ -40,15 +41,36 @@ fn run_all(
         ours: command.iter().map(|word| word.to_string()).collect(),
         oracle: vec![own.to_string_lossy().into_owned(), "replay".to_string()],
     };
+    let mut kept = 0;
     while let Some(script) = scripts.next() {
-        if sides.difference(&script, true)?.is_some() {
-            let (shortest, difference) = shrink::shortest(&sides, script)?;
-            show(name, seed, &shortest, difference);
-            return Ok(false);
+        match sides.held(&script, true)? {
+            Ok(promises) => kept += promises,
+            Err(_) => {
+                let (shortest, difference) = shrink::shortest(&sides, script)?;
+                show(name, seed, &shortest, difference);
+                return Ok(false);
+            }
         }
     }
-    println!("compare: {name}: {}", scripts.summary(0));
+    if kept != scripts.equal_calls() {
+        let wanted = scripts.equal_calls();
+        let text = format!(
+            "equal calls over {wanted} pairs of tables, of which {kept} were held together"
+        );
+        return Err(std::io::Error::other(text));
+    }
+    println!("compare: {name}: {}{}", scripts.summary(0), told(kept));
     Ok(true)
+}
+
+/// What the closing line says of equal calls.
+fn told(kept: usize) -> String {
+    match kept {
+        0 => String::new(),
+        _ => {
+            format!("; the port's own answers to the calls over the two of {kept} pairs: the same")
+        }
+    }
 }
 
 fn show(name: &str, seed: u64, script: &Script, difference: Option<Difference>) {

@@ -5,6 +5,7 @@
 //! newline are all differences. So is an answer on which the oracle itself is of two minds, even if the other
 //! side gives the same: it may be the oracle too.
 
+use super::promise::{self, Broken};
 use crate::answers::both::MARK;
 use crate::script::Script;
 use std::io::{self, Read, Write};
@@ -29,16 +30,42 @@ pub struct Sides {
 }
 
 impl Sides {
-    /// The first difference between the two sides' answers to a script. Both run at the same time.
-    pub fn difference(&self, script: &Script, loud: bool) -> io::Result<Option<Difference>> {
+    /// The first difference between the two sides' answers to a script, or in ours where an empty list of changed cells
+    /// promises that there is none; else how many such promises were kept. Both run at the same time.
+    pub fn held(&self, script: &Script, loud: bool) -> io::Result<Result<usize, Difference>> {
         let input = script.bytes();
         let (ours, oracle) = std::thread::scope(|scope| {
             let ours = scope.spawn(|| run(&self.ours, &input, loud));
             let oracle = run(&self.oracle, &input, loud);
             (ours.join().expect("a side's thread does not panic"), oracle)
         });
-        Ok(first_difference(script.owed(), &ours?, &oracle?))
+        let (ours, oracle) = (ours?, oracle?);
+        Ok(match first_difference(script.owed(), &ours, &oracle) {
+            Some(difference) => Err(difference),
+            None => promises(script, &ours, &oracle),
+        })
     }
+
+    /// The first difference alone.
+    pub fn difference(&self, script: &Script, loud: bool) -> io::Result<Option<Difference>> {
+        Ok(self.held(script, loud)?.err())
+    }
+}
+
+/// How many promises our answers keep, or the first one broken. There is an answer to each line.
+fn promises(script: &Script, ours: &Answers, oracle: &Answers) -> Result<usize, Difference> {
+    let lines = ours.lines();
+    let kept = promise::kept(&script.lines[..lines.len()], &lines);
+    kept.map_err(|Broken { first, second }| Difference {
+        line: second,
+        ours: format!(
+            "{}, and over the first table, at line {}: {}",
+            ours.at(&lines, second),
+            first + 1,
+            ours.at(&lines, first)
+        ),
+        oracle: oracle.at(&oracle.lines(), second),
+    })
 }
 
 /// Runs a command over an input. Its standard error is shown if `loud`. The input is written by a thread of
@@ -142,6 +169,25 @@ mod tests {
         assert_eq!(first(2, "a\n", "a\nb\n"), Some(1));
         assert_eq!(first(1, "a\nb\n", "a\nb\n"), Some(1));
         assert_eq!(first(2, "a\nb", "a\nb"), Some(2));
+    }
+
+    #[test]
+    fn a_broken_promise_is_a_difference_of_two_that_agree() {
+        let lines = ["compare 00 01 3", "image 00", "t", "image 01", "t"];
+        let script = Script::new(lines.map(|line| line.as_bytes().to_vec()).into());
+        let held = |answers: &str| {
+            let sides = [saying(answers), saying(answers)];
+            assert!(first_difference(5, &sides[0], &sides[1]).is_none());
+            promises(&script, &sides[0], &sides[1])
+        };
+        assert_eq!(held("cells -\na\nb\na\nb\n").ok(), Some(1));
+        assert_eq!(held("cells 000000\na\nb\na\nc\n").ok(), Some(0));
+        let Err(broken) = held("cells -\na\nb\na\nc\n") else {
+            panic!("a difference");
+        };
+        assert_eq!(broken.line, 4);
+        assert_eq!(broken.ours, "c, and over the first table, at line 3: b");
+        assert_eq!(broken.oracle, "c");
     }
 
     #[test]

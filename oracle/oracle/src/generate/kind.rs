@@ -11,6 +11,11 @@ pub trait Kind {
 
     /// What was run so far, for the closing line; `differences` were found.
     fn summary(&self, differences: usize) -> String;
+
+    /// How often, so far, scripts make the same calls over two tables that have no cell that differs.
+    fn equal_calls(&self) -> usize {
+        0
+    }
 }
 
 /// All scripts of a comparison.

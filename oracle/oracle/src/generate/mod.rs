@@ -1,11 +1,12 @@
 //! Scripts from seeds. A kind of script is one file or folder here: how its scripts are made and what it
 //! counts. To add one: write it, and name it in `scripts` and `sample` below. The other files are what the kinds
-//! write with (`pen`, `page`, `tally`) and about: tables (`draft`, `fields`, `grow`, `weights`) and damage to them
-//! (`damage`, `spoil`).
+//! write with (`pen`, `page`, `tally`, `rooms`) and about: tables (`draft`, `fields`, `grow`, `weights`) and damage
+//! to them (`damage`, `spoil`).
 //!
 //! Assumes: the same kind, numbers and seed give the same scripts.
 
 mod areas;
+mod changes;
 pub mod codes;
 mod damage;
 mod debounce;
@@ -20,6 +21,7 @@ mod kind;
 mod layout;
 mod page;
 mod pen;
+mod rooms;
 mod spoil;
 mod states;
 mod tally;
@@ -37,6 +39,7 @@ pub fn scripts(kind: &str, n: usize, seed: u64) -> Option<Box<dyn Kind>> {
         "image" => Some(Box::new(image::Images::new(n, seed))),
         "areas" => Some(Box::new(areas::Pairs::new(n, seed))),
         "texts" => Some(Box::new(texts::Texts::new(n / texts::SHARE, seed))),
+        "changes" => Some(Box::new(changes::Changes::new(n, seed))),
         "debounce" => Some(Box::new(debounce::Scans::new(n, seed))),
         "keyboard" => Some(Box::new(keyboard::Calls::new(n, seed))),
         "layout" => Some(Box::new(layout::Traces::new(n, seed))),
@@ -53,6 +56,7 @@ pub fn sample(kind: &str, count: usize, seed: u64) -> Option<Script> {
         "image" => Some(image::sample(count, seed)),
         "areas" => Some(areas::sample(count, seed)),
         "texts" => Some(texts::sample(count, seed)),
+        "changes" => Some(changes::sample(count, seed)),
         "debounce" => Some(debounce::sample(count, seed)),
         "keyboard" => Some(keyboard::sample(count, seed)),
         "layout" => Some(layout::sample(count, seed)),

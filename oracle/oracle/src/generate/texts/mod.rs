@@ -16,13 +16,14 @@ use super::grow::{accepted, Reach};
 use super::image::random_image;
 use super::kind::Kind;
 use super::page::Page;
+use super::rooms::{any_room, enough};
 use super::tally::{Tally, OF_IMAGES};
 use crate::paper::image::Refusal;
 use crate::paper::text::{print, write};
 use crate::random::Random;
 use crate::script::Script;
 use crate::words::to_hex;
-use cases::{any_room, enough, Sort, SHARES};
+use cases::{Sort, SHARES};
 use sheet::{numbers, Sheet};
 
 /// A buffer that holds whatever is written or printed.
