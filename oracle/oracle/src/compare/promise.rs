@@ -1,6 +1,6 @@
 //! What an empty list of changed cells promises, held to a side's answers by themselves: wherever it finds no cell in
 //! which two tables differ, and the script then brings the first table, makes calls, brings the second and makes the
-//! same calls, the answers to the calls are the same, line by line.
+//! same calls, the answers to the calls are the same, line by line, as far as the calls are.
 //!
 //! Assumes: there is an answer to each line. A script says by its lines where calls are to be held together, so that a
 //! part of a script is held to it as the whole was.
@@ -40,8 +40,8 @@ pub fn kept(lines: &[Vec<u8>], answers: &[&[u8]]) -> Result<usize, Broken> {
     Ok(kept)
 }
 
-/// Where lines compare two tables, bring the first, make calls, bring the second and make the same calls: how many
-/// calls there are, and the line that brings the second.
+/// Where lines compare two tables, bring the first, make calls, bring the second and make the same calls: how many are
+/// the same from the first on, and the line that brings the second.
 fn equal_calls(lines: &[Vec<u8>]) -> Option<(usize, usize)> {
     let words: Vec<&[u8]> = lines[0].split(|&byte| byte == b' ').collect();
     let [b"compare", one, other, _] = words[..] else {
@@ -52,10 +52,12 @@ fn equal_calls(lines: &[Vec<u8>]) -> Option<(usize, usize)> {
         (line.strip_prefix(b"image ")? == table).then_some(())
     };
     brings(1, one)?;
-    let count = lines[2..].iter().take_while(|line| is_call(line)).count();
-    brings(2 + count, other)?;
-    let (calls, again) = (&lines[2..2 + count], lines.get(3 + count..3 + 2 * count)?);
-    (count > 0 && calls == again).then_some((count, 2 + count))
+    let calls = lines[2..].iter().take_while(|line| is_call(line));
+    let second = 2 + calls.clone().count();
+    brings(second, other)?;
+    let both = calls.zip(&lines[second + 1..]);
+    let same = both.take_while(|(call, again)| call == again).count();
+    (same > 0).then_some((same, second))
 }
 
 fn is_call(line: &[u8]) -> bool {
@@ -110,17 +112,31 @@ mod tests {
             (1, ("compare 00 02 6", "cells -")),
             (1, ("compares 00 01 6", "cells -")),
             (2, ("image 02", "accepted")),
-            (4, ("r 0 0", "b")),
+            (3, ("r 0 0", "a")),
             (4, ("room 64", "b")),
             (5, ("image 00", "accepted")),
-            (7, ("k", "b")),
+            (6, ("k", "a")),
         ] {
             let mut lines = KEPT;
             lines[at] = line;
             lines[7].1 = "c";
             assert_eq!(found(&lines), Ok(0), "{line:?}");
         }
-        assert_eq!(found(&KEPT[..7]), Ok(0));
+        assert_eq!(found(&KEPT[..6]), Ok(0));
         assert_eq!(found(&[KEPT[1], KEPT[2], KEPT[5]]), Ok(0));
+    }
+
+    #[test]
+    fn calls_are_held_together_as_far_as_they_are_the_same() {
+        let mut lines = KEPT;
+        lines[7] = ("k", "c");
+        assert_eq!(found(&lines), Ok(1));
+        assert_eq!(found(&lines[..7]), Ok(1));
+        lines[6].1 = "c";
+        let broken = Broken {
+            first: 3,
+            second: 6,
+        };
+        assert_eq!(found(&lines), Err(broken));
     }
 }

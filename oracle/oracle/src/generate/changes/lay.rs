@@ -41,11 +41,13 @@ pub fn laid(
     random: &mut Random,
     reach: Reach,
 ) -> Option<Draft> {
+    // where cells are many, records and entries are to be so too
+    let seldom = if table.cells.len() > 512 { 3 } else { 150 };
     let lavish = Style {
         copies: random.pick(&[0, 1, 3, 10, 60]),
         strays: random.pick(&[0, 0, 1, 3, 12]),
         loose: !random.once_in(4),
-        full: reach == Reach::Any && random.once_in(150),
+        full: reach == Reach::Any && random.once_in(seldom),
     };
     let draft = laid_so(table, strays, random, lavish);
     draft.or_else(|| laid_so(table, &[], random, THRIFTY))

@@ -11,6 +11,8 @@ mod deep;
 mod lay;
 mod nudge;
 mod opening;
+#[cfg(test)]
+mod situations;
 mod sizes;
 mod trees;
 
