@@ -90,8 +90,9 @@ impl Counts {
         let changed = self.answers_of(Sort::Changed);
         format!(
             "{} pairs, {differences} differences (the same trees {}, of which {} gave no cell; one change {}, of \
-             which {} gave one cell and {} several; unrelated {}; unequal sizes {}; refused {}; short of room {}; any \
-             {}; answers: {}; as the generator's trees foretold: {} lists), {} calls over both of {} pairs, and {} further lines, most of them unreadable",
+             which {} gave one cell and {} several; unrelated {}; unequal sizes {}; refused {}; short of room {}; \
+             any {}; answers: {}; as the generator's trees foretold: {} lists), {} calls over both of {} pairs, and \
+             {} further lines, most of them unreadable",
             self.pairs() + self.opening,
             count(&|sort| self.of(sort)),
             count(&|sort| self.answers_of(sort).none),

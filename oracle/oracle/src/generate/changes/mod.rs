@@ -1,5 +1,5 @@
-//! Scripts of `compare` lines: pairs of tables with the same trees under other record numbers, with one change deep in a
-//! tree, of unequal sizes, refused, and short of room; and over tables of the same trees the same calls.
+//! Scripts of `compare` lines: pairs of tables with the same trees under other record numbers, with one change deep in
+//! a tree, of unequal sizes, refused, and short of room; and over tables of the same trees the same calls.
 //!
 //! Assumes: what a pair is answered is the paper's to say, for the closing line as for the answers. Where a line
 //! compares two tables, the next brings the first, calls follow, and then the second and the same calls, the

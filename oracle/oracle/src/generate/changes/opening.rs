@@ -1,5 +1,5 @@
-//! What every comparison of tables opens with: one-cell tables that differ by the least there is, Z and what is one byte
-//! away from it, the largest tables, the longest lines, and lines that cannot be read.
+//! What every comparison of tables opens with: one-cell tables that differ by the least there is, Z and what is one
+//! byte away from it, the largest tables, the longest lines, and lines that cannot be read.
 //!
 //! Assumes nothing.
 

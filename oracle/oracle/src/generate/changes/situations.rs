@@ -100,52 +100,46 @@ fn of_unequal(one: [usize; 3], other: [usize; 3], room: usize) -> Vec<&'static s
     found
 }
 
-/// What stands in a list's answer, and how the two tables are laid out.
-fn of_listed(images: [&[u8]; 2], one: &Parts, other: &Parts, listed: usize) -> Vec<String> {
-    let mut found = Vec::new();
+/// How two tables are laid out, the one beside the other.
+fn of_layouts(images: [&[u8]; 2], one: &Parts, other: &Parts) -> Vec<String> {
     let records = other.records.len().cmp(&one.records.len());
     let entries = other.list.len().cmp(&one.list.len());
-    found.push(format!("records {records:?}, entries {entries:?}"));
+    let mut found = vec![format!("records {records:?}, entries {entries:?}")];
     let words = images[0].chunks(2).zip(images[1].chunks(2));
     let changed = words.filter(|(one, other)| one != other).count();
     if images[0].len() == images[1].len() && changed == 1 {
         found.push("the same bytes but for a word".to_string());
     }
     let [mut sorted, mut others] = [one, other].map(|parts| parts.records.clone());
-    let plain = |records: &[[u16; 4]]| !records.iter().any(|record| record[0] == 7);
     sorted.sort();
     others.sort();
-    if one.records != other.records && sorted == others && plain(&sorted) {
+    if one.records != other.records && sorted == others {
         found.push("records in another order alone".to_string());
     }
-    let moved = |(one, other): (&[u16; 4], &[u16; 4])| {
-        matches!(one[0], 3 | 4) && [one[0], one[2]] == [other[0], 0] && one != other && one[2] == 0
+    let moved = |(one, other): (&[u16; 4], &[u16; 4])| match (one, other) {
+        ([3, first, 0, 0], [3, other, 0, 0]) => first != other,
+        ([4, first, 0, 0], [4, other, 0, 0]) => first != other,
+        _ => false,
     };
     if one.records.iter().zip(&other.records).any(moved) {
         found.push("an empty list elsewhere".to_string());
     }
-    let (cells, records, entries) = (one.cells.len(), one.records.len(), one.list.len());
-    for (is_so, name) in [
+    found
+}
+
+/// What is as large or as small in a table as it can be.
+fn of_limits(parts: &Parts) -> Vec<String> {
+    let counts = (parts.cells.len(), parts.records.len(), parts.list.len());
+    let (cells, records, entries) = counts;
+    let limits = [
         (cells == 1_024, "of the most cells"),
         (records == 256, "256 records"),
         (entries == 1_024, "1024 entries"),
-        (
-            (cells, records, entries) == (1_024, 256, 1_024),
-            "the largest",
-        ),
-        ((cells, records, entries) == (1, 1, 0), "the smallest"),
-    ] {
-        found.extend(is_so.then(|| name.to_string()));
-    }
-    let answer = match listed {
-        0 => "no cell",
-        3 => "one cell",
-        _ => "several",
-    };
-    found
-        .iter()
-        .map(|name| format!("{answer}: {name}"))
-        .collect()
+        (counts == (1_024, 256, 1_024), "the largest"),
+        (counts == (1, 1, 0), "the smallest"),
+    ];
+    let found = limits.iter().filter(|(is_so, _)| *is_so);
+    found.map(|(_, name)| name.to_string()).collect()
 }
 
 fn of_pair(one: &[u8], other: &[u8], room: usize) -> Vec<String> {
@@ -159,51 +153,53 @@ fn of_pair(one: &[u8], other: &[u8], room: usize) -> Vec<String> {
         return found.into_iter().map(str::to_string).collect();
     }
     let listed = differing(one, other, 65_535).expect("accepted").len();
-    let mut found = of_listed([one, other], first, second, listed);
+    let answer = match listed {
+        0 => "no cell",
+        3 => "one cell",
+        _ => "several",
+    };
+    let names = [of_layouts([one, other], first, second), of_limits(first)].concat();
+    let mut found: Vec<String> = (names.iter())
+        .map(|name| format!("{answer}: {name}"))
+        .collect();
     let same = if listed == 0 { "the same" } else { "changed" };
     let room = of_room(room, 3 * first.cells.len());
     found.push(format!("{same}, room: {room}"));
     found
 }
 
-fn wanted() -> Vec<String> {
-    let mut wanted: Vec<String> = OTHERS.map(str::to_string).into();
+fn wanted_refusals() -> Vec<String> {
+    let mut wanted = Vec::new();
     for one in 0..=9 {
         let others = (0..=9).filter(|other| (one, *other) != (0, 0));
         wanted.extend(others.map(|other| format!("refused {one} and {other}")));
     }
-    for number in 1..=9 {
-        for place in ["first", "second"] {
-            for room in ["no room", "some room"] {
-                wanted.push(format!(
-                    "refused {number} in the {place}, unequal sizes, {room}"
-                ));
-                // an image of refusal 1 has no sizes, and one of 2 hardly ever those of another
-                if number > 3 {
-                    wanted.push(format!(
-                        "refused {number} in the {place}, equal sizes, {room}"
-                    ));
-                }
-            }
+    for place in ["first", "second"] {
+        for room in ["no room", "some room"] {
+            let unequal = |n: u8| format!("refused {n} in the {place}, unequal sizes, {room}");
+            wanted.extend((1..=9).map(unequal));
+            // the others are not made of a table with the sizes of the second
+            let equal = |n: u8| format!("refused {n} in the {place}, equal sizes, {room}");
+            wanted.extend((4..=9).map(equal));
         }
     }
+    wanted
+}
+
+fn wanted() -> Vec<String> {
+    let mut wanted: Vec<String> = OTHERS.map(str::to_string).into();
+    wanted.extend(wanted_refusals());
     for same in ["the same", "changed"] {
-        let rooms = [
-            "none",
-            "just enough",
-            "one less",
-            "fewer",
-            "the most",
-            "more",
-        ];
+        let short = ["none", "one less", "fewer"];
+        let enough = ["just enough", "the most", "more"];
+        let rooms = short.into_iter().chain(enough);
         wanted.extend(rooms.map(|room| format!("{same}, room: {room}")));
     }
     let each = [Ordering::Less, Ordering::Equal, Ordering::Greater];
     for answer in ["no cell", "one cell", "several"] {
         for records in each {
-            let all =
-                each.map(|entries| format!("{answer}: records {records:?}, entries {entries:?}"));
-            wanted.extend(all);
+            let name = |entries| format!("{answer}: records {records:?}, entries {entries:?}");
+            wanted.extend(each.map(name));
         }
     }
     wanted
