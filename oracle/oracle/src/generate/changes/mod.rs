@@ -34,6 +34,9 @@ const PAIRS_A_SCRIPT: usize = 3_000;
 /// The fewest and the most calls over a table, about: each pair has them twice.
 const CALLS: (usize, usize) = (6, 24);
 
+/// The most calls over a table in scripts that are kept.
+const CALLS_KEPT: usize = 10;
+
 pub struct Changes {
     random: Random,
     /// Makes the calls that are to come over both tables of a pair.
@@ -98,6 +101,9 @@ impl Changes {
         let is_call = |line: &Vec<u8>| matches!(line[..], [b'p' | b'r', b' ', ..] | [b't' | b'k']);
         let mut calls = self.pen.script().lines;
         calls.retain(is_call);
+        if self.reach == Reach::Small {
+            calls.truncate(CALLS_KEPT);
+        }
         for image in images {
             self.page.write(format!("image {}", to_hex(image)));
             calls.iter().for_each(|call| self.page.write(&call[..]));
@@ -241,8 +247,8 @@ mod tests {
         assert_eq!(script.lines.len(), 300);
         assert!(script.lines.iter().all(|line| line.len() < 8_000));
         let answers = answers(&script);
-        assert!(starting(&answers, "cells -") > 10 && starting(&answers, "cells 0") > 10);
-        assert!(starting(&answers, "refused") > 10 && starting(&answers, "codes") > 50);
+        assert!(starting(&answers, "cells -") > 20 && starting(&answers, "cells 0") > 20);
+        assert!(starting(&answers, "refused") > 20 && starting(&answers, "codes") > 50);
         assert_eq!(sample(20, 1).lines.len(), 20);
     }
 }
