@@ -35,7 +35,8 @@ InList img kind first count node =
 abbrev pub wordsOf : List ℕ → Node → List ℕ
 wordsOf img node = wordsFrom img (node .at) (node .count)
 
--- record n is met: what it says by itself, and the records that it names, all lower. Words of kind 3 are codes
+-- record n is met: what it says by itself, and the records that it names, all lower. Words of kind 3 are codes. `near` keeps the
+-- place of every word far below what 64 bits hold
 pub record Met (img : List ℕ) (n : ℕ) (node : Node) : Type 0 where
   pub near : node .at < 1048576
   pub says : own (tree img n) ≡ node .kind ∷ node .word ∷ cond (eqb (node .kind) 3) (wordsOf img node) []

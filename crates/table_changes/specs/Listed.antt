@@ -26,8 +26,8 @@ pub record CellOf (image : List ℕ) (layer row column i : ℕ) : Type 0 where
   pub number : i ≡ cellPlace image layer row column
 
 -- what the cell does in both is the same but for record numbers
-abbrev pub Unchanged : List ℕ → List ℕ → ℕ → ℕ → ℕ → Type 0
-Unchanged first second layer row column =
+abbrev pub SameAction : List ℕ → List ℕ → ℕ → ℕ → ℕ → Type 0
+SameAction first second layer row column =
     unnumbered (tableOf first .cell layer row column) ≡ unnumbered (tableOf second .cell layer row column)
 
 pub record Listing (first second : List ℕ) : Type 0 where
@@ -42,11 +42,11 @@ pub record Listing (first second : List ℕ) : Type 0 where
   -- a listed cell changes
   pub sharp :
       (layer row column i : ℕ) → CellOf first layer row column i → has i (changed first second) ≡ true
-      → Unchanged first second layer row column → ⊥
+      → SameAction first second layer row column → ⊥
   -- no other does
   pub whole :
       (layer row column i : ℕ) → CellOf first layer row column i → has i (changed first second) ≡ false
-      → Unchanged first second layer row column
+      → SameAction first second layer row column
   -- they come by layer, row and column, each once
   pub ordered : rising (changed first second) ≡ true
 
