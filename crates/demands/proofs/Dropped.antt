@@ -38,7 +38,7 @@ use Rattle.demands.specs.Dropped.{droppedIf, countIn, Told, NoneShown, c
 use Rattle.demands.proofs.Adding.{Match, follow-event, follow-tick, Any, None, all, nothing, all-told, none-told, none-dropped, push-follows, silent-follows, kept-follows}
 use Rattle.demands.proofs.Drops.{event-drops, tick-drops}
 use Rattle.demands.proofs.Limits.{of-calls}
-use Rattle.demands.proofs.Replies.{given-codes, fine, stays-lawful, step-is, reply-is, marks-are}
+use Rattle.demands.proofs.Replies.{replyWith, given-codes, fine, stays-lawful, step-is, reply-is, marks-are}
 
 -- marks leave the count of the notes, and a count that does not stop is the count
 decision-count : (k : ℕ) (d : Decision) (n : Notes) → decisionAt k d n .dropped ≡ n .dropped
@@ -93,9 +93,7 @@ add-up image (k ∷ ks) layout =
 
 -- the reply of a call whose step did so
 abbrev repliedWith : List ℕ → Layout → List ℕ → Done → Reply
-repliedWith image layout buffer done =
-    let j = judgedOf image layout (length buffer) in
-    record { told = toldOf (answerOf j done); layout = layoutAfter j done layout; buffer = buffered j done buffer }
+repliedWith image layout buffer done = replyWith (judgedOf image layout (length buffer)) done layout buffer
 
 -- steps that leave the same, and steps that do but for the count
 match-all : (x y : Done) → Match Any all x y → x ≡ y

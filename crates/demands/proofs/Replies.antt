@@ -1,13 +1,16 @@
 -- A run of the public calls over an accepted image, on a layout that was packed, is the run of the steps on its lists.
 -- Assumes nothing.
 use Prim.Native.Nat.{ℕ, zero, suc, _≤_}
-use mathlib.Core.Path.{_≡_, refl, ap, ap₂}
+use mathlib.Core.Path.{_≡_, refl, ap, ap₂, _∙_}
 use mathlib.Core.List.{List, [], _∷_, _++_}
 use borrow.Author.Tests.{le-leb}
+use lib.Dec.{leb}
 use lib.ListN.{length, drop, replicate}
 use lib.Seq.{take-at}
 use Rattle.lists.specs.Lists.{every, laid}
 use Rattle.refusal.specs.Verdict.{rule, orElse}
+use Rattle.refusal.specs.declared.Refusal.the-variants.{Room}
+use Rattle.refusal.specs.declared.Verdict.{Verdict}
 use Rattle.refusal.specs.declared.Verdict.the-variants.{Fine}
 use Rattle.image.specs.Check.{checkOf}
 use Rattle.image.specs.Sound.{Sound}
@@ -19,14 +22,22 @@ use Rattle.layout.specs.Model.{Model, Done}
 use Rattle.layout.specs.Steps.{event, tick, codes}
 use Rattle.layout.specs.Packed.{pack}
 use Rattle.layout.specs.Notes.{noNotes, noted}
-use Rattle.layout.specs.Calls.{Reply, codesTold, replied, judgedOf, answerOf, layoutAfter, buffered}
+use Rattle.layout.specs.Calls.{toldOf, Reply, codesTold, replied, judgedOf, answerOf, layoutAfter, buffered}
 use Rattle.layout.specs.Reach.{Starts}
+use Rattle.layout.specs.declared.layout.Layout.{Layout}
 use Rattle.layout.proofs.Lawful.{Lawful, event-lawful, tick-lawful}
 use Rattle.layout.proofs.Reach.{lawful-good, unpack-pack, starts-lawful}
 use Rattle.demands.specs.Runs.{Call, Tick, Enter, call, run, ticks}
 use Rattle.demands.specs.Public.{Lent, callsOf, ticksOn, lentAll, Roomy, step, reply, replies, marksIf, marksOf, lastLayout, lastCodes, NoneRefused}
 
--- what a call that did so hands back
+-- on a packed layout only the buffer can be too small
+abbrev pub roomFor : List ℕ → Verdict
+roomFor buffer = rule (leb 64 (length buffer)) Room 0 Fine
+
+-- the reply to a verdict on a call whose step did so; and with nothing refused
+abbrev pub replyWith : Verdict → Done → Layout → List ℕ → Reply
+replyWith j done layout buffer = record { told = toldOf (answerOf j done); layout = layoutAfter j done layout; buffer = buffered j done buffer }
+
 abbrev pub given : Done → List ℕ → Reply
 given done buffer =
     record {
@@ -42,9 +53,13 @@ module _ (img : List ℕ) (shape : Shape) (e : checkOf img ≡ Accepted shape) w
   sound : Sound img
   sound = accepted img shape e .1
 
-  pub fine : (l : Model) (room : ℕ) → Lawful img l → 64 ≤ room → judgedOf img (pack l) room ≡ Fine
+  judged : (l : Model) (room : ℕ) → Lawful img l → judgedOf img (pack l) room ≡ rule (leb 64 room) Room 0 Fine
   unfolding judgedOf orElse rule
-  fine l room w h = rw (e, lawful-good img l w, le-leb 64 room h)
+  judged l room w = rw (e, lawful-good img l w)
+
+  pub fine : (l : Model) (room : ℕ) → Lawful img l → 64 ≤ room → judgedOf img (pack l) room ≡ Fine
+  unfolding rule
+  fine l room w h = judged l room w ∙ rw (le-leb 64 room h)
 
   pub stays-lawful : (k : Call) (l : Model) → Lawful img l → Lawful img (call (tableOf img) k l .layout)
   unfolding call
@@ -56,14 +71,18 @@ module _ (img : List ℕ) (shape : Shape) (e : checkOf img ≡ Accepted shape) w
   step-is Tick l w = ap (tick (tableOf img)) (unpack-pack img l w)
   step-is (Enter x) l w = ap (event (tableOf img) x) (unpack-pack img l w)
 
-  replied-is : (f : Model → Done) (l : Model) (buffer : List ℕ) → Lawful img l → 64 ≤ length buffer → replied img f (pack l) buffer ≡ given (f l) buffer
-  unfolding replied answerOf layoutAfter buffered
-  replied-is f l buffer w h = rw (fine l (length buffer) w h, ap f (unpack-pack img l w))
+  pub replied-so : (f : Model → Done) (l : Model) (buffer : List ℕ) → Lawful img l → replied img f (pack l) buffer ≡ replyWith (roomFor buffer) (f l) (pack l) buffer
+  unfolding replied
+  replied-so f l buffer w = rw (judged l (length buffer) w, ap f (unpack-pack img l w))
+
+  pub reply-so : (k : Call) (l : Model) (buffer : List ℕ) → Lawful img l → reply img k (pack l) buffer ≡ replyWith (roomFor buffer) (call (tableOf img) k l) (pack l) buffer
+  unfolding reply call
+  reply-so Tick l buffer w = replied-so (tick (tableOf img)) l buffer w
+  reply-so (Enter x) l buffer w = replied-so (event (tableOf img) x) l buffer w
 
   pub reply-is : (k : Call) (l : Model) (buffer : List ℕ) → Lawful img l → 64 ≤ length buffer → reply img k (pack l) buffer ≡ given (call (tableOf img) k l) buffer
-  unfolding reply call
-  reply-is Tick l buffer w h = replied-is (tick (tableOf img)) l buffer w h
-  reply-is (Enter x) l buffer w h = replied-is (event (tableOf img) x) l buffer w h
+  unfolding rule answerOf layoutAfter buffered
+  reply-is k l buffer w h = reply-so k l buffer w ∙ rw (le-leb 64 (length buffer) h)
 
   pub marks-are : (k : Call) (l : Model) (buffer : List ℕ) → Lawful img l → 64 ≤ length buffer
       → marksIf (judgedOf img (pack l) (length buffer)) (step img k (pack l)) ≡ call (tableOf img) k l .marks

@@ -6,13 +6,11 @@ use mathlib.Core.Path.{_≡_, refl, ap, ap₂, sym, _∙_}
 use mathlib.Core.Bool.{Bool, true, false, _&&_}
 use mathlib.Core.List.{List, [], _∷_, map}
 use native.Mathlib.Omega.{arith}
-use lib.Dec.{eqb, leb}
+use lib.Dec.{eqb}
 use lib.ListN.{length, take}
 use Rattle.lists.specs.Lists.{has, every}
-use Rattle.refusal.specs.Verdict.{rule, orElse}
 use Rattle.refusal.specs.declared.Verdict.{Verdict}
 use Rattle.refusal.specs.declared.Verdict.the-variants.{Fine, Refused}
-use Rattle.refusal.specs.declared.Refusal.the-variants.{Room}
 use Rattle.image.specs.Words.{shapeOf}
 use Rattle.image.specs.Record.{cellPlace, isInside, cellAt}
 use Rattle.image.specs.Check.{checkOf}
@@ -25,30 +23,22 @@ use Rattle.table_changes.specs.Listed.{Listing, Listed}
 use Rattle.table_changes.proofs.Verdicts.{Compares, compares}
 use Rattle.table_changes.proofs.Listed.{listed}
 use Rattle.layout.specs.Model.{Model, Done, fresh, still}
-use Rattle.layout.specs.Steps.{event, tick}
 use Rattle.layout.specs.Packed.{pack}
 use Rattle.layout.specs.Notes.{actedIn, madeIn}
 use Rattle.layout.specs.Reach.{FreshStarts}
-use Rattle.layout.specs.Calls.{toldOf, Reply, replied, judgedOf, answerOf, layoutAfter, buffered, keycodesReply}
+use Rattle.layout.specs.Calls.{Reply, answerOf, layoutAfter, buffered, keycodesReply}
 use Rattle.layout.specs.declared.answer.Told.{Told}
 use Rattle.layout.specs.declared.layout.Layout.{Layout}
 use Rattle.layout.proofs.Lawful.{Lawful}
-use Rattle.layout.proofs.Reach.{lawful-good, unpack-pack, fresh-starts, starts-lawful}
-use Rattle.demands.specs.Runs.{Call, Tick, Enter, call}
-use Rattle.demands.specs.Public.{Lent, reply, replies, lastLayout, NoneRefused}
+use Rattle.layout.proofs.Reach.{fresh-starts, starts-lawful}
+use Rattle.demands.specs.Runs.{Call, call}
+use Rattle.demands.specs.Public.{Lent, replies, lastLayout, NoneRefused}
 use Rattle.demands.specs.Bench.{Says, says}
 use Rattle.demands.specs.Unchanged.{answered, NoKeyChanges, NoCodesChange, SameAnswers}
-use Rattle.demands.proofs.Replies.{stays-lawful}
+use Rattle.demands.proofs.Replies.{roomFor, replyWith, stays-lawful, replied-so, reply-so}
 use Rattle.demands.proofs.Unnumbered.{bare, bareDone, bareTable, call-bare}
 
--- on a packed layout only the buffer can be too small
-abbrev roomFor : List ℕ → Verdict
-roomFor buffer = rule (leb 64 (length buffer)) Room 0 Fine
-
--- the reply to a verdict on a call whose step did so, and the lists of the layout after it
-abbrev replyWith : Verdict → Done → Layout → List ℕ → Reply
-replyWith j done layout buffer = record { told = toldOf (answerOf j done); layout = layoutAfter j done layout; buffer = buffered j done buffer }
-
+-- the lists of the layout after a verdict on a call whose step did so
 abbrev modelAfter : Verdict → Done → Model → Model
 modelAfter Fine done l = done .layout
 modelAfter (Refused refusal place) done l = l
@@ -59,19 +49,6 @@ layout-after Fine done l = refl
 layout-after (Refused refusal place) done l = refl
 
 module _ (img : List ℕ) (shape : Shape) (e : checkOf img ≡ Accepted shape) where
-  judged : (l : Model) (room : ℕ) → Lawful img l → judgedOf img (pack l) room ≡ rule (leb 64 room) Room 0 Fine
-  unfolding judgedOf orElse rule
-  judged l room w = rw (e, lawful-good img l w)
-
-  replied-so : (f : Model → Done) (l : Model) (buffer : List ℕ) → Lawful img l → replied img f (pack l) buffer ≡ replyWith (roomFor buffer) (f l) (pack l) buffer
-  unfolding replied
-  replied-so f l buffer w = rw (judged l (length buffer) w, ap f (unpack-pack img l w))
-
-  reply-so : (k : Call) (l : Model) (buffer : List ℕ) → Lawful img l → reply img k (pack l) buffer ≡ replyWith (roomFor buffer) (call (tableOf img) k l) (pack l) buffer
-  unfolding reply call
-  reply-so Tick l buffer w = replied-so (tick (tableOf img)) l buffer w
-  reply-so (Enter x) l buffer w = replied-so (event (tableOf img) x) l buffer w
-
   next-lawful : (j : Verdict) (k : Call) (l : Model) → Lawful img l → Lawful img (modelAfter j (call (tableOf img) k l) l)
   next-lawful Fine k l w = stays-lawful img shape e k l w
   next-lawful (Refused refusal place) k l w = w
