@@ -2,13 +2,13 @@
 use Prim.Native.Nat.{ℕ, zero, suc, _+_, _<_, _≤_}
 use mathlib.Core.Bool.{Bool, true, false, _&&_, and-true, and-false, and-assoc}
 use mathlib.Core.List.{List, [], _∷_, _++_}
-use mathlib.Core.Path.{_≡_, refl, sym, _∙_}
+use mathlib.Core.Path.{_≡_, refl, sym, ap, _∙_}
 use native.Mathlib.Numerals.{add-one}
 use native.Mathlib.Omega.{arith}
 use borrow.Author.Tests.{eq-eqb, ne-eqb, eqb-true}
 use lib.Dec.{eqb}
 use lib.ListN.{length, take, drop, getD, replicate, length-append, length-drop, drop-of-length-le, take-append-drop}
-use lib.Seq.{drop-cons}
+use lib.Seq.{drop-cons, sets, sets-eq}
 use Rattle.lists.specs.Lists.{alike, laid, count, every}
 
 -- both halves of a test that holds
@@ -107,3 +107,9 @@ laid-is buffer was bytes k long first past = sym (take-append-drop k buffer) ∙
 
 pub laid-long : (bytes buffer : List ℕ) → length bytes ≤ length buffer → length (laid bytes buffer) ≡ length buffer
 laid-long bytes buffer h = simp (length-append, length-drop) (omega arith)
+
+-- bytes that fit, put from the start on
+pub sets-front : (buffer bytes : List ℕ) → length bytes ≤ length buffer → sets buffer 0 bytes ≡ laid bytes buffer
+sets-front buffer bytes h =
+    let n : 0 + length bytes ≡ length bytes = omega arith in
+    sets-eq bytes buffer 0 (omega arith) ∙ ap (λ k. bytes ++ drop k buffer) n

@@ -1,14 +1,15 @@
 -- Laws of cells and their three bytes: that they are bytes, and one more behind those that stand in a buffer.
 -- Assumes nothing.
 use Prim.Native.Nat.{ℕ, suc, _+_, _-_, _*_, _/_, _%_, _<_, _≤_}
-use mathlib.Core.Path.{_≡_, refl, ap, _∙_}
+use mathlib.Core.Path.{_≡_, refl, _∙_}
 use mathlib.Core.Bool.{Bool, true, false, cond}
-use mathlib.Core.List.{List, [], _∷_, _++_}
+use mathlib.Core.List.{List, [], _∷_}
 use native.Mathlib.Nat.{mod-lt, div-lt-iff-lt-mul}
 use native.Mathlib.Omega.{arith}
-use lib.ListN.{length, drop, set}
-use lib.Seq.{sets, sets-eq}
+use lib.ListN.{length, set}
+use lib.Seq.{sets}
 use Rattle.lists.specs.Lists.{keep, laid}
+use Rattle.lists.proofs.Laws.{sets-front}
 use Rattle.table_changes.specs.Changes.{from, placed}
 use Rattle.table_changes.specs.Inside.{Sized}
 
@@ -100,6 +101,4 @@ module _ (p : ℕ → Bool) (rows columns : ℕ) {out whole was : List ℕ} wher
   pub rest-end : (count : ℕ) → Rest rows columns [] count out whole was → length (placed rows columns whole) ≤ length was
       → (count ≡ length whole) × (out ≡ laid (placed rows columns whole) was)
   unfolding placed
-  rest-end count r h =
-      let n : 0 + length (placed rows columns whole) ≡ length (placed rows columns whole) = omega arith in
-      (omega (arith, r .ends), r .holds ∙ sets-eq (placed rows columns whole) was 0 (omega arith) ∙ ap (λ k. placed rows columns whole ++ drop k was) n)
+  rest-end count r h = (omega (arith, r .ends), r .holds ∙ sets-front was (placed rows columns whole) h)

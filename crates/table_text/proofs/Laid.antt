@@ -1,11 +1,10 @@
 -- Laws of bytes laid one behind the other, and of a loop that lays them. Assumes nothing.
-use Prim.Native.Nat.{ℕ, suc, _+_, _≤_}
+use Prim.Native.Nat.{ℕ, suc, _+_}
 use mathlib.Core.List.{List, [], _∷_, _++_}
 use mathlib.Core.Path.{_≡_, refl, sym, ap, _∙_}
 use native.Mathlib.Omega.{arith}
-use lib.ListN.{length, length-append, drop, set}
-use lib.Seq.{sets, sets-eq}
-use Rattle.lists.specs.Lists.{laid}
+use lib.ListN.{length, length-append, set}
+use lib.Seq.{sets}
 use Rattle.table_text.specs.Inside.{Lays}
 
 -- some bytes and then others
@@ -16,12 +15,6 @@ sets-append l i [] b =
 sets-append l i (x ∷ a) b =
     let e : suc i + length a ≡ i + suc (length a) = omega arith in
     sets-append (set l i x) (suc i) a b ∙ ap (λ k. sets (sets (set l i x) (suc i) a) k b) e
-
--- bytes that fit, from the start on
-pub sets-front : (l bytes : List ℕ) → length bytes ≤ length l → sets l 0 bytes ≡ laid bytes l
-sets-front l bytes h =
-    let n : 0 + length bytes ≡ length bytes = omega arith in
-    sets-eq bytes l 0 (omega arith) ∙ ap (λ k. bytes ++ drop k l) n
 
 -- no byte, one, and those of a call behind those of another
 pub lays-none : (at : ℕ) (out : List ℕ) → Lays [] at out at out

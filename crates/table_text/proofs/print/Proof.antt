@@ -9,10 +9,10 @@ use Rattle.image.specs.Check.{faultOf}
 use Rattle.image.proofs.Accepted.{accepted}
 use Rattle.image.proofs.Faults.{fault-fine}
 use Rattle.image.proofs.Said.{said-one}
+use Rattle.lists.proofs.Laws.{sets-front}
 use Rattle.refusal.specs.declared.Verdict.the-variants.{Fine}
 use Rattle.table_text.specs.Inside.{Headed}
 use Rattle.table_text.specs.Print.{textOf, printVerdict, printReply}
-use Rattle.table_text.proofs.Laid.{sets-front}
 use Rattle.table_text.proofs.Checks.{reply-refused, reply-short, reply-laid}
 use Rattle.table_text.proofs.print.Statement.{statement}
 use Rattle.table_text.proofs.print.Tie as tie
