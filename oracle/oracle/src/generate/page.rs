@@ -45,6 +45,14 @@ pub fn fill(left: &mut usize, mut make: impl FnMut() -> Vec<u8>) -> Option<Scrip
     page.script().if_any()
 }
 
+/// That none of these lines can be read, for the tests of the kinds that have such lines.
+#[cfg(test)]
+pub fn assert_unreadable(lines: &[&str]) {
+    let lines = lines.iter().map(|text| text.as_bytes().to_vec()).collect();
+    let answers = crate::answers::replay::answers(&Script::new(lines));
+    assert!(answers.iter().all(|answer| answer == "?"), "{answers:?}");
+}
+
 /// A readable line with one byte changed, added or taken away: nearly always one that cannot be read.
 pub fn miswritten(random: &mut Random, mut line: Vec<u8>) -> Vec<u8> {
     let place = random.below(line.len());
