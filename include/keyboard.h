@@ -37,10 +37,8 @@ typedef struct Keyboard {
     bool scroll;
     bool compose;
     bool kana;
-    uint8_t idle;    /* the idle rate in force, in units of 4 ms; 0 repeats nothing */
-    uint16_t count;  /* the clock calls of the running period */
-    bool waits;      /* whether a rate waits for the next report */
-    uint8_t pending; /* the rate that waits, which may be 0; where none waits it says nothing */
+    uint8_t idle;   /* the idle rate, in units of 4 ms; 0 repeats nothing */
+    uint16_t count; /* the clock calls of the running period */
 } Keyboard;
 
 /* A refusal's number or 0, and the report; that of a refused call is zero. */
@@ -49,7 +47,7 @@ typedef struct KeyboardGot {
     KbHidReport report;
 } KeyboardGot;
 
-/* A fresh keyboard: no key down, no light, idle rate 0, no rate that waits. */
+/* A fresh keyboard: no key down, no light, idle rate 0. */
 Keyboard keyboard_new(void);
 
 /* The report to send from now on. True if it differs from the last: send it. */
@@ -61,12 +59,7 @@ KeyboardGot keyboard_get_report(Keyboard *kb, uint8_t type, uint8_t id);
 /* Set_Report. Output, id 0 and one byte set the lights; anything else is refused, 14. */
 uint8_t keyboard_set_report(Keyboard *kb, uint8_t type, uint8_t id, const uint8_t *bytes, size_t length);
 
-/*
- * Set_Idle: the rate, in units of 4 ms. Never refused. With rate 0 in force no period runs: the new rate is in force at
- * once, and a period begins with this call. Else, with 4 ms or more of the period left, it is in force at once and counts
- * from the last report; where that is longer ago than the new rate allows, the next clock call is due. With less left the
- * rate waits for the next report, a due one or a changed one, in the place of one that waits already.
- */
+/* Set_Idle: the rate, in units of 4 ms. Never refused. */
 uint8_t keyboard_set_idle(Keyboard *kb, uint8_t rate);
 
 /* One millisecond. True if the report is due again: send it. */

@@ -1,4 +1,4 @@
-# One row of docs/TRACE.md, with names.awk: where its sentence stands in the document, each column under its heading, and
+# One row of docs/TRACE.md, with names.awk: where its sentence stands in document 01, each column under its heading, and
 # for each name the file and the line. TRACE_ROW in the environment is what is asked for, `width` the width of a line.
 #
 # Assumes: a cell has no | of its own.
@@ -49,17 +49,11 @@ function inWords(place,    part, sentence) {
     return "paragraph " part[1] sentence
 }
 
-# a section of document 01 has that section's heading; one of a later document names the document and the request
-function inDocument(row,    list, n, i, all, from) {
+function inDocument(row,    list, n, i, all) {
     if (!placed[row]) return docs ":" lineAt[row]
     n = split(place[row], list, /, /)
     for (i = 1; i <= n; i++) all = all (all == "" ? "" : "; ") inWords(list[i])
-    from = "document 01, \"" section[row] "\""
-    if (section[row] ~ /^Document [0-9]+, [^:]*:/) {
-        from = "d" substr(section[row], 2)
-        sub(/:.*/, "", from)
-    }
-    return from ": " all "    (" docs ":" lineAt[row] ")"
+    return "document 01, \"" section[row] "\": " all "    (" docs ":" lineAt[row] ")"
 }
 
 # the cell above that says what `the same` means, with its row

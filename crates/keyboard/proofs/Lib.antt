@@ -1,7 +1,5 @@
 pub mod Hid111
-pub mod Between
-pub mod Periods
-pub mod OwnRate
+pub mod Due
 pub mod Changes
 pub mod Steps
 pub mod Walk

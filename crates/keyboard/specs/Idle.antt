@@ -1,53 +1,17 @@
--- The idle clock: document 01, "Report and keyboard", its second paragraph; and Set_Idle by document 02, W-204, in the place of
--- document 01's rule. Assumes nothing.
-use Rattle.std.specs.Prelude.{ℕ, ◌+◌, ◌-◌, ◌*◌, min, Bool, true, false, cond, not, ◌&&◌, eqb, leb}
+-- The idle clock: document 01, "Report and keyboard", its second paragraph; and what a user wants of it. Assumes nothing.
+use Rattle.std.specs.Prelude.{ℕ, zero, suc, ◌+◌, ◌*◌, ◌%◌, ◌≤◌, min, Bool, true, false, cond, not, ◌&&◌, ◌≡◌, eqb, leb}
 use Rattle.keyboard.specs.declared.Keyboard.{Keyboard}
 use Rattle.keyboard.specs.declared.Answered.{Answered}
 use Rattle.keyboard.specs.declared.Clocked.{Clocked}
 
--- the record with another rate in force, another count, and another rate that waits, or none
-abbrev pub with_idle : Keyboard → ℕ → ℕ → Bool → ℕ → Keyboard
-with_idle k rate count waits pending =
-    record {
-      report = k.report;
-      num = k.num;
-      caps = k.caps;
-      scroll = k.scroll;
-      compose = k.compose;
-      kana = k.kana;
-      idle = rate;
-      count = count;
-      waits = waits;
-      pending = pending;
-    }
+-- the record with another rate and count
+abbrev pub with_idle : Keyboard → ℕ → ℕ → Keyboard
+with_idle k rate count =
+    record { report = k.report; num = k.num; caps = k.caps; scroll = k.scroll; compose = k.compose; kana = k.kana; idle = rate; count = count }
 
--- a rate in force, this far into its period; nothing waits
-abbrev pub in_force : Keyboard → ℕ → ℕ → Keyboard
-in_force k rate count = with_idle k rate count false 0
-
--- the rate that is in force after the next report: one that waits, or else the one in force
-abbrev pub next_rate : Keyboard → ℕ
-next_rate k = cond k.waits k.pending k.idle
-
--- a report goes out: a period begins, and a rate that waits takes effect
-unfoldable pub begun : Keyboard → Keyboard
-begun k = in_force k (next_rate k) 0
-
--- the clock calls that are left of the running period, not below 0
-abbrev pub left : Keyboard → ℕ
-left k = 4 * k.idle - k.count
-
--- What Set_Idle makes of the record. At rate 0 nothing runs: the new rate is in force, and its period begins here. With 4 clock
--- calls or more left it is in force too, but the count goes on, so that its period began with the last report. With fewer left it
--- waits, and whatever waited is forgotten.
-unfoldable pub asked : Keyboard → ℕ → Keyboard
-asked k rate =
-    cond (eqb k.idle 0)
-    (in_force k rate 0)
-    (cond (leb 4 (left k)) (in_force k rate k.count) (with_idle k k.idle k.count true rate))
-
+-- Set_Idle starts a fresh period
 unfoldable pub idled : Keyboard → ℕ → Answered
-idled k rate = record { number = 0; keyboard = asked k rate }
+idled k rate = record { number = 0; keyboard = with_idle k rate 0 }
 
 -- the count of a clock call: the lesser of count + 1 and 1,020
 abbrev pub counted : Keyboard → ℕ
@@ -61,5 +25,19 @@ is_due k = not (eqb k.idle 0) && leb (4 * k.idle) (counted k)
 unfoldable pub clocked : Keyboard → Clocked
 clocked k =
     cond (is_due k)
-    (record { due = true; keyboard = begun k })
-    (record { due = false; keyboard = with_idle k k.idle (counted k) k.waits k.pending })
+    (record { due = true; keyboard = with_idle k k.idle 0 })
+    (record { due = false; keyboard = with_idle k k.idle (counted k) })
+
+-- so many clock calls, one after the other, with no change and no Set_Idle
+unfoldable pub clocks : ℕ → Keyboard → Keyboard
+clocks zero k = k
+clocks (suc j) k = (clocked (clocks j k)).keyboard
+
+-- at rate 0 no call is due
+unfoldable pub NeverDue : Type 0
+NeverDue = (k : Keyboard) → k.idle ≡ 0 → (j : ℕ) → (clocked (clocks j k)).due ≡ false
+
+-- at rate n, from the start of a period, every 4n-th call is due and no other: call j + 1 exactly if 4n divides j + 1
+unfoldable pub DueAt : Type 0
+DueAt =
+    (k : Keyboard) → 1 ≤ k.idle → k.idle ≤ 255 → k.count ≡ 0 → (j : ℕ) → (clocked (clocks j k)).due ≡ eqb ((j + 1) % (4 * k.idle)) 0

@@ -1,5 +1,4 @@
--- What the keyboard's calls on the report and the lights answer: document 01, "Report and keyboard", and refusal 14. That a changed
--- report lets a waiting rate in is document 02, W-204.
+-- What the keyboard's calls on the report and the lights answer: document 01, "Report and keyboard", and refusal 14.
 -- Assumes nothing.
 use Rattle.std.specs.Prelude.{ℕ, true, false, cond, ◌&&◌, List, ◌≡◌, eqb, length, get_or, replicate}
 use Rattle.lists.specs.Lists.{alike}
@@ -8,7 +7,6 @@ use Rattle.refusal.specs.declared.Refusal.TheVariants.{Request}
 use Rattle.codes.specs.Hid111.{bit}
 use Rattle.codes.specs.declared.report.KbHidReport.{KbHidReport}
 use Rattle.keyboard.specs.Hid111.{input, output}
-use Rattle.keyboard.specs.Idle.{begun}
 use Rattle.keyboard.specs.declared.Keyboard.{Keyboard}
 use Rattle.keyboard.specs.declared.Changed.{Changed}
 use Rattle.keyboard.specs.declared.Fetched.{Fetched}
@@ -17,37 +15,14 @@ use Rattle.keyboard.specs.declared.Answered.{Answered}
 abbrev pub zero_report : KbHidReport
 zero_report = record { bytes = replicate 8 0 }
 
--- no key down, no light, idle rate 0, and none that waits
+-- no key down, no light, idle rate 0
 abbrev pub fresh : Keyboard
-fresh =
-    record {
-      report = zero_report;
-      num = false;
-      caps = false;
-      scroll = false;
-      compose = false;
-      kana = false;
-      idle = 0;
-      count = 0;
-      waits = false;
-      pending = 0;
-    }
+fresh = record { report = zero_report; num = false; caps = false; scroll = false; compose = false; kana = false; idle = 0; count = 0 }
 
--- the record with another report
-abbrev pub with_report : Keyboard → KbHidReport → Keyboard
-with_report k report =
-    record {
-      report = report;
-      num = k.num;
-      caps = k.caps;
-      scroll = k.scroll;
-      compose = k.compose;
-      kana = k.kana;
-      idle = k.idle;
-      count = k.count;
-      waits = k.waits;
-      pending = k.pending;
-    }
+-- the record with another report and count
+abbrev pub with_report : Keyboard → KbHidReport → ℕ → Keyboard
+with_report k report count =
+    record { report = report; num = k.num; caps = k.caps; scroll = k.scroll; compose = k.compose; kana = k.kana; idle = k.idle; count = count }
 
 -- LED bits 0 to 4: num, caps, scroll, compose, kana
 abbrev pub with_leds : Keyboard → ℕ → Keyboard
@@ -61,16 +36,14 @@ with_leds k byte =
       kana = bit byte 4;
       idle = k.idle;
       count = k.count;
-      waits = k.waits;
-      pending = k.pending;
     }
 
--- changing the report: true exactly if it differs; with a changed report a period begins
+-- changing the report: true exactly if it differs; a changed report starts a period
 unfoldable pub reported : Keyboard → KbHidReport → Changed
 reported k report =
     cond (alike k.report.bytes report.bytes)
     (record { changed = false; keyboard = k })
-    (record { changed = true; keyboard = with_report (begun k) report })
+    (record { changed = true; keyboard = with_report k report 0 })
 
 -- that it is true exactly if the bytes differ
 pub record ChangedExactly (k : Keyboard) (report : KbHidReport) : Type 0 where

@@ -1,7 +1,7 @@
 // keyberon's keyboard.rs: the last report, the lights, and the requests that the USB stack hands on; idle.rt has the idle clock
 // and descriptor.rt what the device says of itself. By value; lent.rt has the same calls over a record that is lent, for C and
 // Rust to link, linked.rt what they link beside those, and through.rt calls the lent ones with a record that is at hand.
-// Document 01, "Report and keyboard"; a rate that waits: document 02, W-204.
+// Document 01, "Report and keyboard".
 // Assumes nothing.
 mod descriptor;
 mod idle;
@@ -12,7 +12,6 @@ pub mod through;
 ghost use Rattle.std.specs.Prelude.{◌≡◌};
 ghost use Rattle.lists.specs.Lists.{alike};
 ghost use Rattle.keyboard.specs.Keyboard.{fresh, reported, fetched, lit};
-ghost use Rattle.keyboard.specs.Idle.{in_force, begun};
 
 use codes::KbHidReport;
 
@@ -26,12 +25,9 @@ pub struct Keyboard {
     pub scroll: bool,
     pub compose: bool,
     pub kana: bool,
-    // the idle rate in force, in units of 4 ms, and the clock calls of the running period
+    // the idle rate, in units of 4 ms, and the clock calls of the running period
     pub idle: u8,
     pub count: u16,
-    // whether a rate waits for the next report, and which; 0 can wait too
-    pub waits: bool,
-    pub pending: u8,
 }
 
 #[repr(C)]
@@ -97,31 +93,6 @@ impl Keyboard {
             kana: false,
             idle: 0,
             count: 0,
-            waits: false,
-            pending: 0,
-        }
-    }
-
-    // A rate in force, this far into its period; nothing waits.
-    fn take(self, rate: u8, count: u16) -> Keyboard
-        ensures { result ≡ in_force self rate count }
-    {
-        let mut k = self;
-        k.idle = rate;
-        k.count = count;
-        k.waits = false;
-        k.pending = 0;
-        k
-    }
-
-    // A report goes out: a period begins, and a rate that waits comes into force.
-    fn begin(self) -> Keyboard
-        ensures { result ≡ begun self }
-    {
-        if self.waits {
-            self.take(self.pending, 0)
-        } else {
-            self.take(self.idle, 0)
         }
     }
 
@@ -138,8 +109,9 @@ impl Keyboard {
                 keyboard: self,
             };
         }
-        let mut k = self.begin();
+        let mut k = self;
         k.report = report;
+        k.count = 0;
         Changed {
             changed: true,
             keyboard: k,

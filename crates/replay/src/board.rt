@@ -1,6 +1,6 @@
-// The lines of the keyboard: `report`, `get`, `set`, `rate`, `pending`, `idling`, `clock`, `descriptor`. `report`, `get`,
-// `set` and `rate` go through the lent calls; the calls of `clock` go by turns, the first by value, the next through the lent
-// call, so both are run. Assumes nothing.
+// The lines of the keyboard: `report`, `get`, `set`, `rate`, `idling`, `clock`, `descriptor`. `report`, `get`, `set` and `rate`
+// go through the lent calls; the calls of `clock` go by turns, the first by value, the next through the lent call, so both are run.
+// Assumes nothing.
 use super::commands::Board;
 use super::words::Bytes;
 use super::{say, words};
@@ -98,23 +98,11 @@ fn rate(n: u8, keyboard: Keyboard) -> Done {
     }
 }
 
-// `pending`: the rate that waits for the next report, `-` for none.
-fn pending(keyboard: Keyboard) -> Text {
-    let said = say::text(b"pending ");
-    if !keyboard.waits {
-        return said.put(b'-');
-    }
-    said.put_number(words::wide(keyboard.pending))
-}
-
-// `idling RATE COUNT PENDING`: the three as they stand, whatever the calls would make of them. A PENDING of `-` is read as 0,
-// which the record has where nothing waits.
-fn idling(waits: bool, of: [usize; 8], line: &[u8], keyboard: Keyboard) -> Done {
+// `idling RATE COUNT`: the rate and the count as they stand, whatever the calls would make of them.
+fn idling(rate: u8, count: u16, line: &[u8], keyboard: Keyboard) -> Done {
     let mut after = keyboard;
-    after.idle = words::low(of[1]);
-    after.count = words::low_word(of[2]);
-    after.waits = waits;
-    after.pending = words::low(of[3]);
+    after.idle = rate;
+    after.count = count;
     Done {
         keyboard: after,
         text: say::text(line),
@@ -187,12 +175,7 @@ pub fn answer(asked: Board, of: [usize; 8], line: &[u8], keyboard: Keyboard) -> 
         Board::Get => get(first, second, keyboard),
         Board::Set => set(first, second, words::hex_at(line, 3), keyboard),
         Board::Rate => rate(first, keyboard),
-        Board::Pending => Done {
-            keyboard,
-            text: pending(keyboard),
-        },
-        Board::Idling => idling(true, of, line, keyboard),
-        Board::NoneWaits => idling(false, of, line, keyboard),
+        Board::Idling => idling(first, words::low_word(of[2]), line, keyboard),
         Board::Clock => clock(n, keyboard),
         Board::Descriptor => Done {
             keyboard,

@@ -68,16 +68,14 @@ pub enum Bounce {
     Picture,
 }
 
-// The keyboard's. Of the two that set the idle clock `Idling` has a rate that waits, and `NoneWaits` has not.
+// The keyboard's.
 #[derive(Drop)]
 pub enum Board {
     Report,
     Get,
     Set,
     Rate,
-    Pending,
     Idling,
-    NoneWaits,
     Clock,
     Descriptor,
 }
@@ -123,14 +121,12 @@ fn of_rest(place: usize) -> Command {
         23 => Command::Board(Board::Get),
         24 => Command::Board(Board::Set),
         25 => Command::Board(Board::Rate),
-        26 => Command::Board(Board::Pending),
-        27 => Command::Board(Board::Idling),
-        28 => Command::Board(Board::NoneWaits),
-        29 => Command::Board(Board::Clock),
-        30 => Command::Board(Board::Descriptor),
-        31 => Command::Texts(Texts::Write),
-        32 => Command::Texts(Texts::Print),
-        33 => Command::Compare,
+        26 => Command::Board(Board::Idling),
+        27 => Command::Board(Board::Clock),
+        28 => Command::Board(Board::Descriptor),
+        29 => Command::Texts(Texts::Write),
+        30 => Command::Texts(Texts::Print),
+        31 => Command::Compare,
         _ => Command::Unread,
     }
 }
@@ -166,7 +162,7 @@ fn next(forms: &[u8], at: usize) -> usize {
 fn find(line: &[u8], forms: &[u8]) -> Asked {
     let mut at = 0;
     let mut place = 0;
-    while place < 34 {
+    while place < 32 {
         let of = fit(line, forms, at);
         if of[0] == 0 {
             return Asked {
@@ -191,7 +187,7 @@ pub fn read(line: &[u8]) -> Asked {
           p bb r bb t  k  \
           default n counts nn state sKbbb state sLnbb queue qPbbn queue qRbbn wait bbnn idle  \
           debounce nnn- debouncer nnnn-- scan - update - picture  \
-          report - get bb set bb- rate b pending  idling bnb idling bnN clock n descriptor  \
+          report - get bb set bb- rate b idling bn clock n descriptor  \
           write -n print -n compare --n",
     )
 }

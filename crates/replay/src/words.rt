@@ -223,8 +223,7 @@ fn if_is(word: &[u8], expected: &[u8]) -> usize {
 }
 
 // What a word says, as its kind asks: `n` a number, `b` one of at most three digits, up to 255, `s` one below 64, `q` one
-// below 16; `K`, `L`, `P`, `R`, `N` the words `key`, `layer`, `p`, `r` and `-`; `-` any word, not looked at. Past 65,535 where
-// it is not so.
+// below 16; `K`, `L`, `P`, `R` the words `key`, `layer`, `p` and `r`; `-` any word, not looked at. Past 65,535 where it is not so.
 fn read_as(kind: u8, word: &[u8]) -> usize {
     match kind {
         b'-' => 0,
@@ -232,7 +231,6 @@ fn read_as(kind: u8, word: &[u8]) -> usize {
         b'L' => if_is(word, b"layer"),
         b'P' => if_is(word, b"p"),
         b'R' => if_is(word, b"r"),
-        b'N' => if_is(word, b"-"),
         _ => number_as(kind, word),
     }
 }

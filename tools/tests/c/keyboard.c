@@ -28,10 +28,9 @@ static void sizes(void)
 {
     expect(sizeof(KbHidReport) == 8);
     expect(sizeof(KeyboardGot) == 9 && offsetof(KeyboardGot, report) == 1);
-    expect(sizeof(Keyboard) == 18 && offsetof(Keyboard, num) == 8 && offsetof(Keyboard, caps) == 9);
+    expect(sizeof(Keyboard) == 16 && offsetof(Keyboard, num) == 8 && offsetof(Keyboard, caps) == 9);
     expect(offsetof(Keyboard, scroll) == 10 && offsetof(Keyboard, compose) == 11 && offsetof(Keyboard, kana) == 12);
     expect(offsetof(Keyboard, idle) == 13 && offsetof(Keyboard, count) == 14);
-    expect(offsetof(Keyboard, waits) == 16 && offsetof(Keyboard, pending) == 17);
 }
 
 static void made(void)
@@ -75,105 +74,20 @@ static void lights(void)
     expect(same(&kb, &before));
 }
 
-static bool stands(const Keyboard *kb, uint8_t idle, uint16_t count)
-{
-    return kb->idle == idle && kb->count == count && !kb->waits && kb->pending == 0;
-}
-
-static bool waits(const Keyboard *kb, uint8_t idle, uint16_t count, uint8_t pending)
-{
-    return kb->idle == idle && kb->count == count && kb->waits && kb->pending == pending;
-}
-
-/* So many clock calls: bit N of the answer is set where call N, counted from 1, was due. */
-static unsigned clocked(Keyboard *kb, int calls)
-{
-    unsigned due = 0;
-    for (int call = 1; call <= calls; call++)
-        if (keyboard_clock(kb))
-            due |= 1u << call;
-    return due;
-}
-
-/* A rate in force, so many clock calls after the request. */
-static Keyboard idling(uint8_t rate, int calls)
-{
-    Keyboard kb = keyboard_new();
-    expect(keyboard_set_idle(&kb, rate) == 0);
-    expect(clocked(&kb, calls) == 0 && stands(&kb, rate, (uint16_t)calls));
-    return kb;
-}
-
 static void idle(void)
 {
     Keyboard kb = keyboard_new();
-    expect(clocked(&kb, 3) == 0 && stands(&kb, 0, 3));
-    expect(keyboard_set_idle(&kb, 2) == 0 && stands(&kb, 2, 0));
-    expect(clocked(&kb, 24) == (1u << 8 | 1u << 16 | 1u << 24));
-    kb = idling(4, 12);
-    expect(keyboard_set_idle(&kb, 5) == 0 && stands(&kb, 5, 12));
-    expect(clocked(&kb, 28) == (1u << 8 | 1u << 28));
-    kb = idling(5, 9);
-    expect(keyboard_set_idle(&kb, 2) == 0 && stands(&kb, 2, 9));
-    expect(clocked(&kb, 9) == (1u << 1 | 1u << 9));
-    kb = idling(2, 4);
-    expect(keyboard_set_idle(&kb, 0) == 0 && stands(&kb, 0, 4));
-    expect(clocked(&kb, 30) == 0);
-}
-
-static void late(void)
-{
-    static const KbHidReport space = {{1, 0, 0x2C, 0, 0, 0, 0, 0}};
-    Keyboard kb = idling(4, 13);
-    expect(keyboard_set_idle(&kb, 2) == 0 && waits(&kb, 4, 13, 2));
-    expect(clocked(&kb, 2) == 0 && waits(&kb, 4, 15, 2));
-    expect(clocked(&kb, 1) == 1u << 1 && stands(&kb, 2, 0));
-    expect(clocked(&kb, 16) == (1u << 8 | 1u << 16));
-    kb = idling(4, 13);
-    expect(keyboard_set_idle(&kb, 0) == 0 && waits(&kb, 4, 13, 0));
-    expect(clocked(&kb, 30) == 1u << 3 && stands(&kb, 0, 27));
-    kb = idling(4, 13);
-    keyboard_set_idle(&kb, 2);
-    expect(!keyboard_set_keyboard_report(&kb, kb.report) && waits(&kb, 4, 13, 2));
-    expect(keyboard_set_keyboard_report(&kb, space) && stands(&kb, 2, 0));
-    kb = idling(4, 13);
-    keyboard_set_idle(&kb, 2);
-    keyboard_set_idle(&kb, 0);
-    expect(keyboard_set_idle(&kb, 3) == 0 && waits(&kb, 4, 13, 3));
-    expect(keyboard_set_idle(&kb, 4) == 0 && waits(&kb, 4, 13, 4));
-    expect(clocked(&kb, 19) == (1u << 3 | 1u << 19));
-    kb = idling(4, 12);
-    keyboard_set_idle(&kb, 2);
-    expect(keyboard_set_idle(&kb, 5) == 0 && waits(&kb, 2, 12, 5));
-    expect(clocked(&kb, 21) == (1u << 1 | 1u << 21));
-}
-
-/* A terminal that asks every millisecond for the rate in force gets its repeats. */
-static void often(void)
-{
-    Keyboard kb = keyboard_new();
-    unsigned due = 0;
-    for (int ms = 1; ms <= 24; ms++) {
-        keyboard_set_idle(&kb, 2);
+    expect(!keyboard_clock(&kb) && kb.count == 1);
+    expect(keyboard_set_idle(&kb, 2) == 0 && kb.idle == 2 && kb.count == 0);
+    int due = 0;
+    for (int ms = 1; ms <= 24; ms++)
         if (keyboard_clock(&kb))
-            due |= 1u << ms;
-    }
-    expect(due == (1u << 8 | 1u << 16 | 1u << 24));
-}
-
-/* Records that no calls lead to. */
-static void any(void)
-{
-    static const KbHidReport space = {{1, 0, 0x2C, 0, 0, 0, 0, 0}};
-    Keyboard kb = keyboard_new();
+            due += ms;
+    expect(due == 8 + 16 + 24);
     kb.count = 65535;
-    kb.waits = true;
-    kb.pending = 7;
-    expect(clocked(&kb, 2) == 0 && waits(&kb, 0, 1020, 7));
-    expect(keyboard_set_keyboard_report(&kb, space) && stands(&kb, 7, 0));
-    kb.count = 65535;
-    expect(keyboard_set_idle(&kb, 1) == 0 && waits(&kb, 7, 65535, 1));
-    expect(keyboard_clock(&kb) && stands(&kb, 1, 0));
+    expect(keyboard_set_idle(&kb, 0) == 0 && kb.count == 0);
+    kb.count = 1020;
+    expect(!keyboard_clock(&kb) && kb.count == 1020);
 }
 
 /* docs/LINK.md's loop: the clock before the report, so that a change begins a period of its own. */
@@ -214,9 +128,6 @@ int main(void)
     reports();
     lights();
     idle();
-    late();
-    often();
-    any();
     loop();
     described();
     if (failures == 0)

@@ -1,5 +1,5 @@
-//! The lines of the keyboard: `report`, `get`, `set` and `descriptor` over keyberon's keyboard record, `rate`, `clock`,
-//! `pending` and `idling` over the paper's idle clock beside it.
+//! The lines of the keyboard: `report`, `get`, `set` and `descriptor` over keyberon's keyboard record, `rate`, `idling`
+//! and `clock` over the paper's idle clock beside it.
 //!
 //! Assumes: a fresh keyboard has a zero report, all LEDs off and idle rate 0.
 
@@ -86,23 +86,20 @@ impl Board {
     fn clock_answer(&mut self, command: &[u8], rest: &[&[u8]]) -> Option<String> {
         match (command, rest) {
             (b"rate", [rate]) => {
-                self.idle.request(words::byte(rate)?);
+                self.idle.rate = words::byte(rate)?;
+                self.idle.start();
                 Some("rate".to_string())
+            }
+            (b"idling", [rate, count]) => {
+                let (rate, count) = (words::byte(rate)?, words::number(count)?);
+                self.idle = Idle { rate, count };
+                Some(words::line(command, rest))
             }
             (b"clock", [calls]) => {
                 let due = (0..words::number(calls)?)
                     .filter(|_| self.idle.clock())
                     .count();
-                Some(format!("due {due} count {}", self.idle.count()))
-            }
-            (b"pending", []) => Some(match self.idle.waiting() {
-                Some(rate) => format!("pending {rate}"),
-                None => "pending -".to_string(),
-            }),
-            (b"idling", [rate, count, pending]) => {
-                let (rate, count) = (words::byte(rate)?, words::number(count)?);
-                self.idle = Idle::made_up(rate, count, waiting(pending)?);
-                Some(words::line(command, rest))
+                Some(format!("due {due} count {}", self.idle.count))
             }
             _ => None,
         }
@@ -122,7 +119,7 @@ impl Board {
         self.keyboard.answer(|keyboard| {
             let changed = keyboard.set_keyboard_report(report);
             if changed {
-                idle.report();
+                idle.start();
             }
             format!("changed {}", u8::from(changed))
         })
@@ -147,17 +144,8 @@ impl Board {
     }
 }
 
-/// A rate that waits, or `-` where none does.
-fn waiting(word: &[u8]) -> Option<Option<u8>> {
-    match word {
-        b"-" => Some(None),
-        _ => words::byte(word).map(Some),
-    }
-}
-
 #[cfg(test)]
 mod tests {
-    use super::super::{answers, UNREADABLE};
     use super::*;
 
     #[test]
@@ -171,69 +159,5 @@ mod tests {
         assert_eq!(board.set(2, 0, &[]), "14 leds 10010");
         assert_eq!(board.set(2, 1, &[0]), "14 leds 10010");
         assert_eq!(board.set(1, 0, &[0]), "14 leds 10010");
-    }
-
-    #[test]
-    fn what_waits_is_told_and_set() {
-        let lines = [
-            "pending",
-            "idling 000 65535 255",
-            "clock 0",
-            "pending",
-            "clock 1",
-            "idling 2 00005 -",
-            "pending",
-            "rate 000",
-            "pending",
-            "clock 3",
-            "pending",
-        ];
-        let wanted = [
-            "pending -",
-            "idling 000 65535 255",
-            "due 0 count 65535",
-            "pending 255",
-            "due 0 count 1020",
-            "idling 2 00005 -",
-            "pending -",
-            "rate",
-            "pending 0",
-            "due 1 count 0",
-            "pending -",
-        ];
-        assert_eq!(answers(&mut Board::default(), &lines), wanted);
-    }
-
-    #[test]
-    fn lines_of_the_clock_are_strict() {
-        let unread = [
-            "pending 1",
-            "pending -",
-            "pendings",
-            "idling 1",
-            "idling 1 2",
-            "idling 1 2 --",
-            "idling 1 2 -1",
-            "idling 1 2 256",
-            "idling 1 2 0001",
-            "idling 1 2 03 4",
-            "idling 256 2 -",
-            "idling - 2 -",
-            "idling 1 - -",
-            "idling 1 65536 -",
-            "rate -",
-            "rate 256",
-            "clock -",
-            "clock 65536",
-        ];
-        let mut board = Board {
-            idle: Idle::made_up(7, 8, Some(9)),
-            ..Board::default()
-        };
-        for line in unread {
-            assert_eq!(answers(&mut board, &[line]), [UNREADABLE], "{line}");
-        }
-        let after = answers(&mut board, &["clock 0", "pending"]);
-        assert_eq!(after, ["due 0 count 8", "pending 9"]);
     }
 }

@@ -57,8 +57,9 @@ impl Replay {
             b"debounce" | b"debouncer" | b"scan" | b"update" | b"picture" | b"space" => {
                 self.bounces.answer(command, rest)
             }
-            b"report" | b"get" | b"set" | b"descriptor" | b"rate" | b"clock" | b"pending"
-            | b"idling" => self.board.answer(command, rest),
+            b"report" | b"get" | b"set" | b"rate" | b"idling" | b"clock" | b"descriptor" => {
+                self.board.answer(command, rest)
+            }
             _ => self.keys.answer(command, rest),
         }
     }

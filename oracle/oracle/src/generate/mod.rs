@@ -26,7 +26,6 @@ mod spoil;
 mod states;
 mod tally;
 mod texts;
-mod times;
 mod weights;
 
 use crate::script::Script;

@@ -7,7 +7,7 @@ use Rattle.keyboard.proofs.Keyboard.clock.Tie as tie
 
 returns : tie.Need-returns
 unfolding clocked
-returns c = rw (c.begin.ensures, ← c.before.before.before.counted.ensures.0, sym c.before.before.is-due.ensures ∙ c.before.if1.true)
+returns c = rw (← c.before.before.counted.ensures.0, sym c.before.is-due.ensures ∙ c.if1.true)
 
 returns-2 : tie.Need-returns-2
 unfolding clocked
@@ -17,7 +17,6 @@ pub clock-spec : {M : Type 1} → statement M
 clock-spec =
     tie.close
     (tie.spec
-    (λ c κs. search rules)
     (λ c κs. search rules)
     (λ c κs. search rules)
     returns

@@ -11,7 +11,7 @@ returns c = rw (sym c.before.are-alike.ensures ∙ c.if1.true)
 
 returns-2 : tie.Need-returns-2
 unfolding reported
-returns-2 c = rw (c.begin.ensures, sym c.before.before.are-alike.ensures ∙ c.before.if1.false)
+returns-2 c = rw (sym c.before.are-alike.ensures ∙ c.if1.false)
 
 pub set-keyboard-report-spec : {M : Type 1} → statement M
 set-keyboard-report-spec =
@@ -19,5 +19,4 @@ set-keyboard-report-spec =
     (tie.spec
     (λ c κs. search rules)
     returns
-    (λ c κs. search rules)
     returns-2)

@@ -5,10 +5,10 @@ use Rattle.replay.proofs.commands.find.Statement.{statement}
 use Rattle.replay.proofs.commands.find.Tie as tie
 
 abbrev invariant-loop : tie.invariant-loop
-invariant-loop line forms at₀ place₀ at place = place ≤ 34
+invariant-loop line forms at₀ place₀ at place = place ≤ 32
 
 abbrev decreases-loop : tie.decreases-loop
-decreases-loop line forms at₀ place₀ at place = 34 - place
+decreases-loop line forms at₀ place₀ at place = 32 - place
 
 pub find_spec : {M : Type 1} → statement M
 find_spec =

@@ -3,7 +3,6 @@
 //! Assumes: the marks of the paper's steps tell what happened.
 
 use super::super::tally::{Tally, OF_IMAGES};
-use super::super::times::{Names, Times};
 use super::dropped::Dropped;
 use crate::paper::layout::{By, Found, Mark};
 use crate::paper::{ROOM, STATE};
@@ -30,8 +29,8 @@ pub enum Situation {
     ReleasedUp,
 }
 
-/// The situations, and how the closing line names them.
-const NAMES: Names<Situation> = &[
+/// The situations in their order, and how the closing line names them.
+const NAMES: [(Situation, &str); 17] = [
     (Situation::Acted, "events acted on"),
     (Situation::PushedOut, "pushed out of a full queue"),
     (Situation::Dropped, "65th states"),
@@ -60,7 +59,7 @@ pub struct Counts {
     pub calls: usize,
     pub refused: Tally,
     pub dropped: Dropped,
-    times: Times<Situation>,
+    times: [usize; NAMES.len()],
     /// Hold-taps begun, by timeout; the last are those of other timeouts.
     begun: [usize; TIMEOUTS.len() + 1],
 }
@@ -72,7 +71,7 @@ impl Default for Counts {
             calls: 0,
             refused: Tally::of_numbers(OF_IMAGES.chain([ROOM, STATE])),
             dropped: Dropped::default(),
-            times: Times::new(NAMES),
+            times: [0; NAMES.len()],
             begun: [0; TIMEOUTS.len() + 1],
         }
     }
@@ -80,7 +79,7 @@ impl Default for Counts {
 
 impl Counts {
     pub fn add(&mut self, situation: Situation) {
-        self.times.add(situation);
+        self.times[situation as usize] += 1;
     }
 
     /// Counts what happened in a call that was not refused.
@@ -137,7 +136,7 @@ impl Counts {
     pub fn rarer_than(&self, times: usize) -> Vec<String> {
         let long = [Situation::LongWait, Situation::Stopped];
         let named = NAMES.iter().filter(|(situation, _)| {
-            self.times.of(*situation) < times && !long.contains(situation)
+            self.times[*situation as usize] < times && !long.contains(situation)
         });
         let mut rare: Vec<String> = named.map(|(_, name)| name.to_string()).collect();
         if self.begun.iter().any(|&begun| begun < times) {
@@ -148,14 +147,14 @@ impl Counts {
 
     #[cfg(test)]
     pub fn of(&self, situation: Situation) -> usize {
-        self.times.of(situation)
+        self.times[situation as usize]
     }
 }
 
 impl fmt::Display for Counts {
     fn fmt(&self, f: &mut fmt::Formatter) -> fmt::Result {
-        for (name, times) in self.times.named() {
-            write!(f, "{name}: {times}, ")?;
+        for (situation, name) in NAMES {
+            write!(f, "{name}: {}, ", self.times[situation as usize])?;
         }
         write!(f, "hold-taps begun with timeout ")?;
         for (timeout, begun) in TIMEOUTS.iter().zip(self.begun) {
@@ -167,5 +166,17 @@ impl fmt::Display for Counts {
             self.begun[TIMEOUTS.len()],
             self.refused
         )
+    }
+}
+
+#[cfg(test)]
+mod tests {
+    use super::*;
+
+    #[test]
+    fn names_stand_in_the_order_of_the_situations() {
+        for (place, (situation, _)) in NAMES.iter().enumerate() {
+            assert_eq!(*situation as usize, place);
+        }
     }
 }

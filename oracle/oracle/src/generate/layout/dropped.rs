@@ -5,7 +5,6 @@
 //! decision is the one in which the others stand, and a dropped state is of the record that was run last. Only the last
 //! entry of a list may be a hold-tap, so what comes behind a decision is the decision's, up to the next event acted on.
 
-use super::super::times::{Names, Times};
 use crate::paper::calls::Call;
 use crate::paper::image::Parts;
 use crate::paper::layout::{By, Mark, State, ACTIONS, CODES, MOST_STATES};
@@ -49,8 +48,8 @@ pub enum Case {
     RoomAgain,
 }
 
-/// The cases, and how the closing line names them.
-const NAMES: Names<Case> = &[
+/// The cases in their order, and how the closing line names them.
+const NAMES: [(Case, &str); 24] = [
     (Case::InTick, "in a tick"),
     (Case::InEvent, "in an event"),
     (Case::Codes, "through MultipleKeyCodes"),
@@ -81,6 +80,7 @@ const NAMES: Names<Case> = &[
 ];
 
 /// How often each case came up, and the largest counts.
+#[derive(Default)]
 pub struct Dropped {
     /// Calls with a count above 0.
     pub calls: usize,
@@ -88,19 +88,7 @@ pub struct Dropped {
     pub layers: usize,
     pub most_in_tick: usize,
     pub most_in_event: usize,
-    times: Times<Case>,
-}
-
-impl Default for Dropped {
-    fn default() -> Self {
-        Dropped {
-            calls: 0,
-            layers: 0,
-            most_in_tick: 0,
-            most_in_event: 0,
-            times: Times::new(NAMES),
-        }
-    }
+    times: [usize; NAMES.len()],
 }
 
 impl Dropped {
@@ -116,7 +104,9 @@ impl Dropped {
         } else {
             watch.cases.extend(fitting(held));
         }
-        watch.cases.iter().for_each(|case| self.times.add(*case));
+        for case in watch.cases {
+            self.times[case as usize] += 1;
+        }
     }
 
     fn add_largest(&mut self, call: Call, dropped: usize) {
@@ -125,25 +115,26 @@ impl Dropped {
             _ => (Case::InEvent, &mut self.most_in_event),
         };
         *most = dropped.max(*most);
-        self.times.add(case);
+        self.times[case as usize] += 1;
     }
 
     /// The cases that came up less often than so many times.
     #[cfg(test)]
     pub fn rarer_than(&self, times: usize) -> Vec<&'static str> {
-        self.times.rarer_than(times)
+        let rare = NAMES.iter().filter(|(case, _)| self.of(*case) < times);
+        rare.map(|(_, name)| *name).collect()
     }
 
     pub fn of(&self, case: Case) -> usize {
-        self.times.of(case)
+        self.times[case as usize]
     }
 }
 
 impl fmt::Display for Dropped {
     fn fmt(&self, f: &mut fmt::Formatter) -> fmt::Result {
         write!(f, "calls that dropped a state: {}", self.calls)?;
-        for (name, times) in self.times.named() {
-            write!(f, ", {name}: {times}")?;
+        for (case, name) in NAMES {
+            write!(f, ", {name}: {}", self.of(case))?;
         }
         write!(f, "; layers dropped: {}, ", self.layers)?;
         write!(f, "largest count in a tick: {}, ", self.most_in_tick)?;
@@ -274,6 +265,13 @@ mod tests {
     use super::*;
     use crate::paper::image::{check, Z};
     use crate::paper::layout::{Event, MOST_STATES};
+
+    #[test]
+    fn names_stand_in_the_order_of_the_cases() {
+        for (place, (case, _)) in NAMES.iter().enumerate() {
+            assert_eq!(*case as usize, place);
+        }
+    }
 
     /// What is counted of a call over Z with so many states held before it.
     fn counted(before: usize, marks: &[Mark]) -> (Dropped, Vec<Case>) {
