@@ -1,5 +1,7 @@
 // Standard input and output, for the programs that answer lines. Which bytes a read brings no contract can say: all else of a step
 // of reading is promised, and of writing that it returns. Assumes nothing.
+#![tactic(auto)]
+
 ghost use Rattle.std.specs.Prelude.{◌≡◌};
 ghost use Rattle.console.specs.Reading.{Advances};
 

@@ -2,6 +2,8 @@
 // scans, and is told as events. Here the debouncer, its answers and its calls; verdicts.rt says what is refused, picture.rt has
 // pictures and scans, events.rt writes the events. Document 01, Debounce.
 // Assumes nothing.
+#![tactic(auto)]
+
 mod events;
 mod picture;
 mod verdicts;

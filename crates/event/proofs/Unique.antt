@@ -7,11 +7,11 @@ use Rattle.event.specs.contracts.Event.coord as C
 use Rattle.event.specs.contracts.Event.bytes as B
 use Rattle.event.specs.contracts.Event.read as R
 
-pub coord : Decides C.ended (λ M. C.spec) (λ M. C.clauses)
+pub coord : Decides C.ended (λ M 𝓤 𝓛. C.spec 𝓛) (λ M 𝓤 𝓛. C.clauses 𝓛)
 coord M 𝓤 𝓛 m r = record { same = refl; free = λ κs a g. refl; only = λ κs a g g' x x' ws ws'. both 𝓤 _ _ _ (λ p q. (p ∙ sym q, refl)) }
 
-pub bytes : Decides B.ended (λ M. B.spec) (λ M. B.clauses)
+pub bytes : Decides B.ended (λ M 𝓤 𝓛. B.spec 𝓛) (λ M 𝓤 𝓛. B.clauses 𝓛)
 bytes M 𝓤 𝓛 m r = record { same = refl; free = λ κs a g. refl; only = λ κs a g g' x x' ws ws'. both 𝓤 _ _ _ (λ p q. (p ∙ sym q, refl)) }
 
-pub read : Decides R.ended (λ M. R.spec) (λ M. R.clauses)
+pub read : Decides R.ended (λ M 𝓤 𝓛. R.spec 𝓛) (λ M 𝓤 𝓛. R.clauses 𝓛)
 read M 𝓤 𝓛 m r = record { same = refl; free = λ κs a g. refl; only = λ κs a g g' x x' ws ws'. both 𝓤 _ _ _ (λ p q. (read_one _ _ (p ∙ sym q), refl)) }

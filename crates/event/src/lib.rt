@@ -1,6 +1,8 @@
 // An event of the key matrix: a key at row i, column j goes down or comes up. It stands below debounce, which makes
 // events, and layout, which takes them. `Release` is first, since it has the number 0 in the event's bytes.
 // Assumes nothing.
+#![tactic(auto)]
+
 ghost use Rattle.std.specs.Prelude.{◌≡◌};
 ghost use Rattle.event.specs.Bytes.{coord_of, bytes_of, read_of, read_values};
 

@@ -3,6 +3,8 @@
 // A `usize` of 32 bits holds every sum and product here: a word has 16 bits, an image whose header keeps its rules is at most
 // 6,160 bytes long, and the places that a lookup computes, which knows nothing of its image, are u64.
 // Assumes nothing.
+#![tactic(auto)]
+
 pub mod areas;
 mod children;
 mod header;

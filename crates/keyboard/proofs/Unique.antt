@@ -27,71 +27,71 @@ use Rattle.keyboard.specs.contracts.through.set_report as T3
 use Rattle.keyboard.specs.contracts.through.set_idle as T4
 use Rattle.keyboard.specs.contracts.through.clock as T5
 
-pub new : Decides N.ended (λ M. N.spec) (λ M. N.clauses)
+pub new : Decides N.ended (λ M 𝓤 𝓛. N.spec 𝓛) (λ M 𝓤 𝓛. N.clauses 𝓛)
 new M 𝓤 𝓛 m r = record { same = refl; free = λ κs a g. refl; only = λ κs a g g' x x' ws ws'. both 𝓤 _ _ _ (λ p q. (p ∙ sym q, refl)) }
 
-pub set_keyboard_report : Decides S.ended (λ M. S.spec) (λ M. S.clauses)
+pub set_keyboard_report : Decides S.ended (λ M 𝓤 𝓛. S.spec 𝓛) (λ M 𝓤 𝓛. S.clauses 𝓛)
 set_keyboard_report M 𝓤 𝓛 m r = record { same = refl; free = λ κs a g. refl; only = λ κs a g g' x x' ws ws'. both 𝓤 _ _ _ (λ p q. (p ∙ sym q, refl)) }
 
-pub get_report : Decides G.ended (λ M. G.spec) (λ M. G.clauses)
+pub get_report : Decides G.ended (λ M 𝓤 𝓛. G.spec 𝓛) (λ M 𝓤 𝓛. G.clauses 𝓛)
 get_report M 𝓤 𝓛 m r = record { same = refl; free = λ κs a g. refl; only = λ κs a g g' x x' ws ws'. both 𝓤 _ _ _ (λ p q. (p ∙ sym q, refl)) }
 
-pub set_report : Decides R.ended (λ M. R.spec) (λ M. R.clauses)
+pub set_report : Decides R.ended (λ M 𝓤 𝓛. R.spec 𝓛) (λ M 𝓤 𝓛. R.clauses 𝓛)
 set_report M 𝓤 𝓛 m r = record { same = refl; free = λ κs a g. refl; only = λ κs a g g' x x' ws ws'. both 𝓤 _ _ _ (λ p q. (p ∙ sym q, refl)) }
 
-pub set_idle : Decides I.ended (λ M. I.spec) (λ M. I.clauses)
+pub set_idle : Decides I.ended (λ M 𝓤 𝓛. I.spec 𝓛) (λ M 𝓤 𝓛. I.clauses 𝓛)
 set_idle M 𝓤 𝓛 m r = record { same = refl; free = λ κs a g. refl; only = λ κs a g g' x x' ws ws'. both 𝓤 _ _ _ (λ p q. (p ∙ sym q, refl)) }
 
-pub clock : Decides C.ended (λ M. C.spec) (λ M. C.clauses)
+pub clock : Decides C.ended (λ M 𝓤 𝓛. C.spec 𝓛) (λ M 𝓤 𝓛. C.clauses 𝓛)
 clock M 𝓤 𝓛 m r = record { same = refl; free = λ κs a g. refl; only = λ κs a g g' x x' ws ws'. both 𝓤 _ _ _ (λ p q. (p ∙ sym q, refl)) }
 
-pub report_descriptor : Decides D.ended (λ M. D.spec) (λ M. D.clauses)
+pub report_descriptor : Decides D.ended (λ M 𝓤 𝓛. D.spec 𝓛) (λ M 𝓤 𝓛. D.clauses 𝓛)
 report_descriptor M 𝓤 𝓛 m r = record { same = refl; free = λ κs a g. refl; only = λ κs a g g' x x' ws ws'. both 𝓤 _ _ _ (λ p q. (p ∙ sym q, refl)) }
 
-pub subclass : Decides Sub.ended (λ M. Sub.spec) (λ M. Sub.clauses)
+pub subclass : Decides Sub.ended (λ M 𝓤 𝓛. Sub.spec 𝓛) (λ M 𝓤 𝓛. Sub.clauses 𝓛)
 subclass M 𝓤 𝓛 m r = record { same = refl; free = λ κs a g. refl; only = λ κs a g g' x x' ws ws'. both 𝓤 _ _ _ (λ p q. (p ∙ sym q, refl)) }
 
-pub protocol : Decides P.ended (λ M. P.spec) (λ M. P.clauses)
+pub protocol : Decides P.ended (λ M 𝓤 𝓛. P.spec 𝓛) (λ M 𝓤 𝓛. P.clauses 𝓛)
 protocol M 𝓤 𝓛 m r = record { same = refl; free = λ κs a g. refl; only = λ κs a g g' x x' ws ws'. both 𝓤 _ _ _ (λ p q. (p ∙ sym q, refl)) }
 
-pub keyboard_set_keyboard_report : Decides L1.ended (λ M. L1.spec) (λ M. L1.clauses)
+pub keyboard_set_keyboard_report : Decides L1.ended (λ M 𝓤 𝓛. L1.spec 𝓛) (λ M 𝓤 𝓛. L1.clauses 𝓛)
 keyboard_set_keyboard_report M 𝓤 𝓛 m r = record { same = refl; free = λ κs a g. refl; only = λ κs a g g' x x' ws ws'. both 𝓤 _ _ _ (λ p q. (p.0 ∙ sym q.0, ap (λ w. (w, (tt, tt))) (p.1 ∙ sym q.1))) }
 
-pub keyboard_get_report : Decides L2.ended (λ M. L2.spec) (λ M. L2.clauses)
+pub keyboard_get_report : Decides L2.ended (λ M 𝓤 𝓛. L2.spec 𝓛) (λ M 𝓤 𝓛. L2.clauses 𝓛)
 keyboard_get_report M 𝓤 𝓛 m r = record { same = refl; free = λ κs a g. refl; only = λ κs a g g' x x' ws ws'. both 𝓤 _ _ _ (λ p q. (p.0 ∙ sym q.0, ap (λ w. (w, (tt, (tt, tt)))) (p.1 ∙ sym q.1))) }
 
-pub keyboard_set_report : Decides L3.ended (λ M. L3.spec) (λ M. L3.clauses)
+pub keyboard_set_report : Decides L3.ended (λ M 𝓤 𝓛. L3.spec 𝓛) (λ M 𝓤 𝓛. L3.clauses 𝓛)
 keyboard_set_report M 𝓤 𝓛 m r = record { same = refl; free = λ κs a g. refl; only = λ κs a g g' x x' ws ws'. both 𝓤 _ _ _ (λ p q. (p.0 ∙ sym q.0, ap (λ w. (w, (tt, (tt, (tt, tt))))) (p.1 ∙ sym q.1))) }
 
-pub keyboard_set_idle : Decides L4.ended (λ M. L4.spec) (λ M. L4.clauses)
+pub keyboard_set_idle : Decides L4.ended (λ M 𝓤 𝓛. L4.spec 𝓛) (λ M 𝓤 𝓛. L4.clauses 𝓛)
 keyboard_set_idle M 𝓤 𝓛 m r = record { same = refl; free = λ κs a g. refl; only = λ κs a g g' x x' ws ws'. both 𝓤 _ _ _ (λ p q. (p.0 ∙ sym q.0, ap (λ w. (w, (tt, tt))) (p.1 ∙ sym q.1))) }
 
-pub keyboard_clock : Decides L5.ended (λ M. L5.spec) (λ M. L5.clauses)
+pub keyboard_clock : Decides L5.ended (λ M 𝓤 𝓛. L5.spec 𝓛) (λ M 𝓤 𝓛. L5.clauses 𝓛)
 keyboard_clock M 𝓤 𝓛 m r = record { same = refl; free = λ κs a g. refl; only = λ κs a g g' x x' ws ws'. both 𝓤 _ _ _ (λ p q. (p.0 ∙ sym q.0, ap (λ w. (w, tt)) (p.1 ∙ sym q.1))) }
 
-pub keyboard_new : Decides E1.ended (λ M. E1.spec) (λ M. E1.clauses)
+pub keyboard_new : Decides E1.ended (λ M 𝓤 𝓛. E1.spec 𝓛) (λ M 𝓤 𝓛. E1.clauses 𝓛)
 keyboard_new M 𝓤 𝓛 m r = record { same = refl; free = λ κs a g. refl; only = λ κs a g g' x x' ws ws'. both 𝓤 _ _ _ (λ p q. (p ∙ sym q, refl)) }
 
-pub keyboard_report_descriptor : Decides E2.ended (λ M. E2.spec) (λ M. E2.clauses)
+pub keyboard_report_descriptor : Decides E2.ended (λ M 𝓤 𝓛. E2.spec 𝓛) (λ M 𝓤 𝓛. E2.clauses 𝓛)
 keyboard_report_descriptor M 𝓤 𝓛 m r = record { same = refl; free = λ κs a g. refl; only = λ κs a g g' x x' ws ws'. both 𝓤 _ _ _ (λ p q. (p.0 ∙ sym q.0, ap (λ w. (w, tt)) (p.1 ∙ sym q.1))) }
 
-pub keyboard_subclass : Decides E3.ended (λ M. E3.spec) (λ M. E3.clauses)
+pub keyboard_subclass : Decides E3.ended (λ M 𝓤 𝓛. E3.spec 𝓛) (λ M 𝓤 𝓛. E3.clauses 𝓛)
 keyboard_subclass M 𝓤 𝓛 m r = record { same = refl; free = λ κs a g. refl; only = λ κs a g g' x x' ws ws'. both 𝓤 _ _ _ (λ p q. (p ∙ sym q, refl)) }
 
-pub keyboard_protocol : Decides E4.ended (λ M. E4.spec) (λ M. E4.clauses)
+pub keyboard_protocol : Decides E4.ended (λ M 𝓤 𝓛. E4.spec 𝓛) (λ M 𝓤 𝓛. E4.clauses 𝓛)
 keyboard_protocol M 𝓤 𝓛 m r = record { same = refl; free = λ κs a g. refl; only = λ κs a g g' x x' ws ws'. both 𝓤 _ _ _ (λ p q. (p ∙ sym q, refl)) }
 
-pub through_set_keyboard_report : Decides T1.ended (λ M. T1.spec) (λ M. T1.clauses)
+pub through_set_keyboard_report : Decides T1.ended (λ M 𝓤 𝓛. T1.spec 𝓛) (λ M 𝓤 𝓛. T1.clauses 𝓛)
 through_set_keyboard_report M 𝓤 𝓛 m r = record { same = refl; free = λ κs a g. refl; only = λ κs a g g' x x' ws ws'. both 𝓤 _ _ _ (λ p q. (p ∙ sym q, refl)) }
 
-pub through_get_report : Decides T2.ended (λ M. T2.spec) (λ M. T2.clauses)
+pub through_get_report : Decides T2.ended (λ M 𝓤 𝓛. T2.spec 𝓛) (λ M 𝓤 𝓛. T2.clauses 𝓛)
 through_get_report M 𝓤 𝓛 m r = record { same = refl; free = λ κs a g. refl; only = λ κs a g g' x x' ws ws'. both 𝓤 _ _ _ (λ p q. (p ∙ sym q, refl)) }
 
-pub through_set_report : Decides T3.ended (λ M. T3.spec) (λ M. T3.clauses)
+pub through_set_report : Decides T3.ended (λ M 𝓤 𝓛. T3.spec 𝓛) (λ M 𝓤 𝓛. T3.clauses 𝓛)
 through_set_report M 𝓤 𝓛 m r = record { same = refl; free = λ κs a g. refl; only = λ κs a g g' x x' ws ws'. both 𝓤 _ _ _ (λ p q. (p ∙ sym q, refl)) }
 
-pub through_set_idle : Decides T4.ended (λ M. T4.spec) (λ M. T4.clauses)
+pub through_set_idle : Decides T4.ended (λ M 𝓤 𝓛. T4.spec 𝓛) (λ M 𝓤 𝓛. T4.clauses 𝓛)
 through_set_idle M 𝓤 𝓛 m r = record { same = refl; free = λ κs a g. refl; only = λ κs a g g' x x' ws ws'. both 𝓤 _ _ _ (λ p q. (p ∙ sym q, refl)) }
 
-pub through_clock : Decides T5.ended (λ M. T5.spec) (λ M. T5.clauses)
+pub through_clock : Decides T5.ended (λ M 𝓤 𝓛. T5.spec 𝓛) (λ M 𝓤 𝓛. T5.clauses 𝓛)
 through_clock M 𝓤 𝓛 m r = record { same = refl; free = λ κs a g. refl; only = λ κs a g g' x x' ws ws'. both 𝓤 _ _ _ (λ p q. (p ∙ sym q, refl)) }

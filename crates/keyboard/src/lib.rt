@@ -3,6 +3,8 @@
 // Rust to link, linked.rt what they link beside those, and through.rt calls the lent ones with a record that is at hand.
 // Document 01, "Report and keyboard".
 // Assumes nothing.
+#![tactic(auto)]
+
 mod descriptor;
 mod idle;
 pub mod lent;

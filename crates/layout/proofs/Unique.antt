@@ -9,17 +9,17 @@ use Rattle.layout.specs.contracts.layout.Layout.tick as T
 use Rattle.layout.specs.contracts.layout.Layout.keycodes as K
 use Rattle.layout.specs.contracts.answer.Answer.told as A
 
-pub new : Decides N.ended (λ M. N.spec) (λ M. N.clauses)
+pub new : Decides N.ended (λ M 𝓤 𝓛. N.spec 𝓛) (λ M 𝓤 𝓛. N.clauses 𝓛)
 new M 𝓤 𝓛 m r = record { same = refl; free = λ κs a g. refl; only = λ κs a g g' x x' ws ws'. both 𝓤 _ _ _ (λ p q. (p ∙ sym q, refl)) }
 
-pub told : Decides A.ended (λ M. A.spec) (λ M. A.clauses)
+pub told : Decides A.ended (λ M 𝓤 𝓛. A.spec 𝓛) (λ M 𝓤 𝓛. A.clauses 𝓛)
 told M 𝓤 𝓛 m r = record { same = refl; free = λ κs a g. refl; only = λ κs a g g' x x' ws ws'. both 𝓤 _ _ _ (λ p q. (p ∙ sym q, refl)) }
 
-pub event : Decides E.ended (λ M. E.spec) (λ M. E.clauses)
+pub event : Decides E.ended (λ M 𝓤 𝓛. E.spec 𝓛) (λ M 𝓤 𝓛. E.clauses 𝓛)
 event M 𝓤 𝓛 m r = record { same = refl; free = λ κs a g. refl; only = λ κs a g g' x x' ws ws'. both 𝓤 _ _ _ (λ p q. let h = handed_one _ _ _ _ (p ∙ sym q) in (h.0, ap (λ w. (tt, (tt, (tt, (w, tt))))) h.1)) }
 
-pub tick : Decides T.ended (λ M. T.spec) (λ M. T.clauses)
+pub tick : Decides T.ended (λ M 𝓤 𝓛. T.spec 𝓛) (λ M 𝓤 𝓛. T.clauses 𝓛)
 tick M 𝓤 𝓛 m r = record { same = refl; free = λ κs a g. refl; only = λ κs a g g' x x' ws ws'. both 𝓤 _ _ _ (λ p q. let h = handed_one _ _ _ _ (p ∙ sym q) in (h.0, ap (λ w. (tt, (tt, (w, tt)))) h.1)) }
 
-pub keycodes : Decides K.ended (λ M. K.spec) (λ M. K.clauses)
+pub keycodes : Decides K.ended (λ M 𝓤 𝓛. K.spec 𝓛) (λ M 𝓤 𝓛. K.clauses 𝓛)
 keycodes M 𝓤 𝓛 m r = record { same = refl; free = λ κs a g. refl; only = λ κs a g g' x x' ws ws'. both 𝓤 _ _ _ (λ p q. let h = shown_one _ _ _ _ _ (p ∙ sym q) in (h.0, ap (λ w. (tt, (tt, (w, tt)))) h.1)) }

@@ -1,5 +1,7 @@
 // keyberon's layout.rs: key events and ticks go in, key codes come out, through layers and hold-taps. Document 01, Layout.
 // Assumes nothing.
+#![tactic(auto)]
+
 pub mod action;
 pub mod active;
 pub mod answer;

@@ -1,4 +1,6 @@
 // Numbers written in decimal, read. Assumes nothing.
+#![tactic(auto)]
+
 ghost use Rattle.std.specs.Prelude.{◌≡◌};
 ghost use Rattle.number.specs.Number.{read_decimal, read_within, values_of};
 

@@ -1,6 +1,8 @@
 // The public calls driven by bytes, so that they can be counted: oracle/speed. The first byte of standard input says what is
 // driven, the rest is its script. It writes the buffer that the calls wrote to.
 // Assumes nothing.
+#![tactic(auto)]
+
 mod keys;
 mod reports;
 mod scans;

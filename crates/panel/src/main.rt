@@ -1,4 +1,6 @@
 // The program of document 01, Bench cases; here run on its image Z and its five lines. Assumes nothing.
+#![tactic(auto)]
+
 fn main() {
     panel_body::run();
 }

@@ -4,5 +4,5 @@ use Rattle.decides.specs.Decides.{Decides}
 use Rattle.decides.proofs.Both.{both}
 use Rattle.panel_body.specs.contracts.run as R
 
-pub run : Decides R.ended (λ M. R.spec) (λ M. R.clauses)
+pub run : Decides R.ended (λ M 𝓤 𝓛. R.spec 𝓛) (λ M 𝓤 𝓛. R.clauses 𝓛)
 run M 𝓤 𝓛 m r = record { same = refl; free = λ κs a g. refl; only = λ κs a g g' x x' ws ws'. both 𝓤 _ _ _ (λ p q. (p ∙ sym q, refl)) }

@@ -3,6 +3,8 @@
 // through a keyboard, as on the panel itself: it is set there, and what Get_Report answers is written; a tick runs the idle
 // clock too. What is done with a line and written for it is promised (`answer`); which bytes are read or written nothing can
 // say. Assumes nothing.
+#![tactic(auto)]
+
 mod table;
 
 ghost use Rattle.std.specs.Prelude.{◌≡◌};

@@ -1,6 +1,8 @@
 // What a line of `panel` says: document 01, Bench cases. `t` is a tick; `p I J` is a press at row I, column J, and `r I J` a
 // release, I and J decimal numbers up to 255 of one to three digits, words parted by one space.
 // Assumes nothing.
+#![tactic(auto)]
+
 ghost use Rattle.std.specs.Prelude.{◌≡◌, ◌≤◌, length, get_or};
 ghost use Rattle.panel_line.specs.Line.{space_at, coords_of, press_at, release_at, line_of, says_of};
 

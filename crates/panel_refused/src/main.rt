@@ -1,4 +1,6 @@
 // `panel` on a table that the check refuses: the refusal alone, and no line answered. Assumes nothing.
+#![tactic(auto)]
+
 fn main() {
     panel_body::run();
 }

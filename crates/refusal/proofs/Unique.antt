@@ -5,8 +5,8 @@ use Rattle.decides.proofs.Both.{both}
 use Rattle.refusal.specs.contracts.Refusal.number as N
 use Rattle.refusal.specs.contracts.Verdict.told as T
 
-pub number : Decides N.ended (λ M. N.spec) (λ M. N.clauses)
+pub number : Decides N.ended (λ M 𝓤 𝓛. N.spec 𝓛) (λ M 𝓤 𝓛. N.clauses 𝓛)
 number M 𝓤 𝓛 m r = record { same = refl; free = λ κs a g. refl; only = λ κs a g g' x x' ws ws'. both 𝓤 _ _ _ (λ p q. (p ∙ sym q, refl)) }
 
-pub told : Decides T.ended (λ M. T.spec) (λ M. T.clauses)
+pub told : Decides T.ended (λ M 𝓤 𝓛. T.spec 𝓛) (λ M 𝓤 𝓛. T.clauses 𝓛)
 told M 𝓤 𝓛 m r = record { same = refl; free = λ κs a g. refl; only = λ κs a g g' x x' ws ws'. both 𝓤 _ _ _ (λ p q. (p ∙ sym q, refl)) }

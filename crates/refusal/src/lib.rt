@@ -2,6 +2,8 @@
 // or what is and where. `specs/Number.antt` has the numbers, `specs/Verdict.antt` the order in which rules are asked for,
 // and `specs/Said.antt` what the paper says of an answer.
 // Assumes nothing.
+#![tactic(auto)]
+
 ghost use Rattle.std.specs.Prelude.{◌≡◌};
 ghost use Rattle.refusal.specs.Number.{number_of};
 ghost use Rattle.refusal.specs.Said.{told_of};

@@ -1,6 +1,8 @@
 // The test driver: reads a script from standard input, a command a line, and writes an answer a line, `?` for a line that
 // it cannot read. docs/REPLAY.md has the lines. `oracle replay` answers the same lines from the Rust, and the two are compared.
 // Everything but the image and the line is passed by value, which the checker follows soonest. Assumes nothing.
+#![tactic(auto)]
+
 mod board;
 mod bounce;
 mod calls;

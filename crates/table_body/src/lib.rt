@@ -2,6 +2,8 @@
 // and writes what `table_text` makes of it, an image or a text, and nothing else; or the one line that says why nothing is
 // made: `refused N P`, `too long`, `unreadable`. An image begins with the byte 1 and a text with a digit, so that the three
 // are told apart. Which bytes are read or written nothing can say; the line of a refusal is promised. Assumes nothing.
+#![tactic(auto)]
+
 mod input;
 
 ghost use Rattle.std.specs.Prelude.{◌≡◌, length};

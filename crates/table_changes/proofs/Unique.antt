@@ -22,11 +22,11 @@ said_back (Refused r p) = refused_back Cells Refused r p 0
 compared_one : (x y : Compared) → said_of x ≡ said_of y → x ≡ y
 compared_one x y e = sym (said_back x) ∙ ap back e ∙ said_back y
 
-pub told : Decides T.ended (λ M. T.spec) (λ M. T.clauses)
+pub told : Decides T.ended (λ M 𝓤 𝓛. T.spec 𝓛) (λ M 𝓤 𝓛. T.clauses 𝓛)
 told M 𝓤 𝓛 m r = record { same = refl; free = λ κs a g. refl; only = λ κs a g g' x x' ws ws'. both 𝓤 _ _ _ (λ p q. (p ∙ sym q, refl)) }
 
 -- the third parameter is lent
-pub compare : Decides C.ended (λ M. C.spec) (λ M. C.clauses)
+pub compare : Decides C.ended (λ M 𝓤 𝓛. C.spec 𝓛) (λ M 𝓤 𝓛. C.clauses 𝓛)
 compare M 𝓤 𝓛 m r =
     record {
       same = refl;

@@ -1,6 +1,8 @@
 // Which keys change between two tables: document 02, W-203. `compare` answers every pair of images: how many cells do another
 // action in the second, whose layers, rows and columns stand in the lent buffer, or the first refusal, with the buffer as it was.
 // Assumes nothing.
+#![tactic(auto)]
+
 mod cells;
 mod meaning;
 

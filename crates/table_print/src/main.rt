@@ -1,5 +1,7 @@
 // A table's image on standard input, its text on standard output: document 02, W-201. Here run on document 01's image Z.
 // Assumes nothing.
+#![tactic(auto)]
+
 fn main() {
     table_body::print();
 }

@@ -23,11 +23,11 @@ said_back (Refused r p) = refused_back Bytes Refused r p 0
 made_one : (x y : Made) → said_of x ≡ said_of y → x ≡ y
 made_one x y e = sym (said_back x) ∙ ap back e ∙ said_back y
 
-pub told : Decides T.ended (λ M. T.spec) (λ M. T.clauses)
+pub told : Decides T.ended (λ M 𝓤 𝓛. T.spec 𝓛) (λ M 𝓤 𝓛. T.clauses 𝓛)
 told M 𝓤 𝓛 m r = record { same = refl; free = λ κs a g. refl; only = λ κs a g g' x x' ws ws'. both 𝓤 _ _ _ (λ p q. (p ∙ sym q, refl)) }
 
 -- the second parameter is lent
-pub write : Decides W.ended (λ M. W.spec) (λ M. W.clauses)
+pub write : Decides W.ended (λ M 𝓤 𝓛. W.spec 𝓛) (λ M 𝓤 𝓛. W.clauses 𝓛)
 write M 𝓤 𝓛 m r =
     record {
       same = refl;
@@ -35,7 +35,7 @@ write M 𝓤 𝓛 m r =
       only = λ κs a g g' x x' ws ws'. both 𝓤 _ _ _ (λ p q. (made_one _ _ (p.0 ∙ sym q.0), ap (λ w. (tt, (w, tt))) (p.1 ∙ sym q.1)));
     }
 
-pub print : Decides P.ended (λ M. P.spec) (λ M. P.clauses)
+pub print : Decides P.ended (λ M 𝓤 𝓛. P.spec 𝓛) (λ M 𝓤 𝓛. P.clauses 𝓛)
 print M 𝓤 𝓛 m r =
     record {
       same = refl;

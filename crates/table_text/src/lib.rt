@@ -3,6 +3,8 @@
 // buffer as it was. A `usize` has 64 bits here, as on the clerk's machine: counts as they stand, up to 65,535 each, make offsets
 // past 32.
 // Assumes nothing.
+#![tactic(auto)]
+
 mod lay;
 mod lines;
 mod read;

@@ -1,5 +1,7 @@
 // A table's text on standard input, its image on standard output: document 02, W-201. Here run on the text of document 01's
 // image Z. Assumes nothing.
+#![tactic(auto)]
+
 fn main() {
     table_body::write();
 }
