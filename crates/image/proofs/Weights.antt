@@ -3,14 +3,14 @@
 use mathlib.Core.Path.{◌≡◌, refl, sym, ap, ◌∙◌}
 use mathlib.Core.Bool.{Bool, true, false, cond, not, ◌&&◌, ◌||◌}
 use mathlib.Core.List.{List, [], ◌∷◌, ◌++◌}
-use Prim.Native.Nat.{ℕ, ◌+◌, ◌-◌, ◌*◌, ◌<◌, ◌≤◌}
+use Prim.Native.Nat.{ℕ, ◌+◌, ◌*◌, ◌<◌, ◌≤◌}
 use native.Mathlib.Omega.{arith}
 use borrow.Author.Tests.{leb-true, leb-false, eqb-true, eqb-false, ltb-true, lt-leb, ne_eqb}
 use lib.ListN.{length}
 use lib.Dec.{eqb, leb, ltb}
 use Rattle.lists.specs.Lists.{every}
 use Rattle.lists.proofs.Laws.{every_head}
-use Rattle.image.specs.Inside.{Placed, Formed, ChildWords, children_at, weighed_of, children_of, Parts}
+use Rattle.image.specs.Inside.{Placed, Formed, children_at, weighed_of, children_of, Parts}
 use Rattle.image.specs.Words.{records_start, word_at, field_of, entries, words_from}
 use Rattle.image.specs.Record.{action_of, children_in, list_end}
 use Rattle.image.specs.Tree.{Action, Actions, named, meaning, tree, open?, some_open, shut_but_last, weight, weights}

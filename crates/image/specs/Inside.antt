@@ -1,9 +1,9 @@
 -- What the check's own functions promise to each other, and no public promise speaks of: what is known of the image where they
 -- are called, and what one pass over the children of a record finds for the rules 7 Child, 8 Nested and 9 Weight.
 -- Assumes nothing.
-use Rattle.std.specs.Prelude.{ℕ, zero, suc, ◌+◌, ◌*◌, ◌<◌, ◌≤◌, ◌≡◌, Bool, true, false, cond, ◌||◌, List, [], ◌∷◌, length, ltb}
+use Rattle.std.specs.Prelude.{ℕ, ◌+◌, ◌*◌, ◌<◌, ◌≤◌, ◌≡◌, true, false, cond, ◌||◌, List, length, ltb}
 use Rattle.lists.specs.Lists.{every}
-use Rattle.image.specs.Words.{word_at, records_of, entries_of, records_start, list_start, words_from}
+use Rattle.image.specs.Words.{records_of, entries_of, records_start, list_start, words_from}
 use Rattle.image.specs.Record.{action_at}
 use Rattle.image.specs.Tree.{Actions, named, tree, open?, some_open, weight, weights}
 use Rattle.image.specs.Check.{form_good}

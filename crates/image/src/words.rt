@@ -5,7 +5,7 @@ ghost use Rattle.image.specs.Words.{word_at, shape_of, records_of, entries_of, r
 ghost use Rattle.image.specs.Sound.{Framed};
 
 // The header's numbers but for the version.
-#[derive(Drop)]
+#[derive(Clone, Copy)]
 pub struct Shape {
     pub layers: usize,
     pub rows: usize,
