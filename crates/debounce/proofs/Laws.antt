@@ -1,22 +1,19 @@
--- Laws of pictures and their tests, of a scan put into its places, and of the three bytes of an event. Assumes nothing.
+-- Laws of pictures and their tests, and of a scan put into its places. Assumes nothing.
 use Prim.Native.Nat.{ℕ, suc, ◌+◌, ◌-◌, ◌<◌, ◌≤◌}
 use mathlib.Core.Bool.{Bool, true, false, ◌&&◌, and-true}
 use mathlib.Core.List.{List, [], ◌∷◌, ◌++◌}
 use mathlib.Core.Logic.{◌⊎◌, ⊎_elim}
 use mathlib.Core.Path.{◌≡◌, refl, sym, ap, ◌∙◌}
-use native.Mathlib.Numerals.{add-one, add-two}
+use native.Mathlib.Numerals.{add-one}
 use native.Mathlib.Omega.{arith}
 use borrow.Author.Tests.{le-leb, lt-leb, eqb-true, eqb-false}
 use lib.Dec.{eqb, leb}
 use lib.ListN.{length, take, drop, get_or, set, replicate, length-drop, take-append-drop}
-use lib.Seq.{take_all, take-suc, set_at, length-take-le, append_snoc, sets}
+use lib.Seq.{take_all, take-suc, set_at, length-take-le, append_snoc}
 use Rattle.lists.specs.Lists.{every}
 use Rattle.lists.proofs.Laws.{both_true, every_split, every_replicate}
 use Rattle.debounce.specs.Picture.{padded, binary, unused, is_picture}
 use Rattle.debounce.specs.Inside.{at_most}
-use Rattle.event.specs.declared.Event.{Event}
-use Rattle.event.specs.declared.Event.TheVariants.{Release, Press}
-use Rattle.event.specs.Bytes.{bytes_of}
 
 -- an unused place is 0: at most 0, and so at most 1
 unused_low : (u : ℕ) → unused u ≡ at_most 0 u
@@ -70,9 +67,3 @@ pub pad_binary : (scan : List ℕ) → every binary (padded scan) ≡ every bina
 pad_binary scan =
     every_split binary scan (replicate (128 - length scan) 0)
     ∙ rw (every_replicate binary (128 - length scan) 0 refl) (and-true (every binary scan))
-
--- three bytes written one after the other are an event's bytes written
-pub three_set : (e : Event) (l : List ℕ) (at : ℕ)
-    → set (set (set l at (get_or (bytes_of e) 0 0)) (at + 1) (get_or (bytes_of e) 1 0)) (at + 2) (get_or (bytes_of e) 2 0) ≡ sets l at (bytes_of e)
-three_set (Release i j) l at = rw (add-one, add-two)
-three_set (Press i j) l at = rw (add-one, add-two)

@@ -22,7 +22,7 @@ use verdicts::making_verdict;
 
 // The accepted picture, the candidate, for how many scans the candidate has stood, and the size. A switch that is down is
 // 1, one that is up 0, row by row; places past the last switch are 0.
-#[derive(Drop)]
+#[derive(Clone, Copy, Drop)]
 pub struct Debouncer {
     pub cur: [u8; 128],
     pub new: [u8; 128],

@@ -1,0 +1,12 @@
+-- `debounce::Debouncer::grown` meets its contract. Assumes nothing.
+use mathlib.Core.Path.{sym, ◌∙◌}
+use Rattle.debounce.specs.Step as filter
+use Rattle.debounce.proofs.Debouncer.grown.Goals as goal
+
+pub returns-then-are_alike : goal.returns-then-are_alike
+unfolding filter.grown
+returns-then-are_alike c = rw (sym c.are_alike.ensures ∙ c.if-are_alike.true)
+
+pub returns : goal.returns
+unfolding filter.grown
+returns c = rw (sym c.are_alike.ensures ∙ c.if-are_alike.false)
