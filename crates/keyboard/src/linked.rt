@@ -15,6 +15,7 @@ pub fn keyboard_new() -> Keyboard
 }
 
 // The descriptor's 71 bytes at the buffer's start, and 0; or 12, and nothing written, where they do not fit.
+#[tactic(auto, using(crate::proofs::Room::short))]
 pub fn keyboard_report_descriptor(out: &mut [u8]) -> u8
     ensures { LentDescribed out.old result out.new }
 {

@@ -1,27 +1,12 @@
 -- `keyboard::linked::keyboard_report_descriptor` meets its contract. Assumes nothing.
-use borrow.Author.Tests.{lt-leb}
-use Prim.Native.Nat.{ℕ, suc, ◌+◌, ◌<◌}
-use mathlib.Core.Bool.{false}
+use Prim.Native.Nat.{ℕ, suc, ◌+◌}
 use mathlib.Core.List.{List}
-use mathlib.Core.Path.{◌≡◌, refl, ap, ◌∙◌}
+use mathlib.Core.Path.{◌≡◌, ap, ◌∙◌}
 use native.Mathlib.Omega.{arith}
-use lib.Dec.{leb}
 use lib.ListN.{length, get_or, set, length-set}
 use lib.Seq.{paste, paste-suc}
-use Rattle.keyboard.specs.Descriptor.{descriptor}
+use Rattle.keyboard.proofs.Room.{long}
 use Rattle.keyboard.proofs.linked.keyboard_report_descriptor.Goals as goal
-
--- the descriptor has 71 bytes
-long : length descriptor ≡ 71
-unfolding descriptor
-long = refl
-
--- a buffer without room for it
-short : (l : List ℕ) → length l < 71 → leb (length descriptor) (length l) ≡ false
-short l h = rw long (lt-leb 71 (length l) h)
-
-pub returns-then-out-lt71 : goal.returns-then-out-lt71
-returns-then-out-lt71 c = rw (short c.args.out.now c.if-out-lt71.true) (refl, refl)
 
 pub loop-i-preserved : goal.loop-i-preserved
 loop-i-preserved c =
