@@ -6,7 +6,7 @@ ghost use Rattle.codes.specs.Report.{free_place, filled, pressed_of, report_of};
 use crate::key_code::KeyCode;
 
 #[repr(C)]
-#[derive(Drop)]
+#[derive(Clone, Copy, Drop)]
 pub struct KbHidReport {
     pub bytes: [u8; 8],
 }

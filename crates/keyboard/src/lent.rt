@@ -1,5 +1,5 @@
-// The keyboard's calls over a record that is lent and updated by each: a call by value, and the record put back. Exported
-// for C and Rust to link. Document 01, "Report and keyboard".
+// The keyboard's calls over a record that is lent and updated by each: a call by value, and the record put back. The crate
+// keyboard_c exports them, for C and Rust to link. Document 01, "Report and keyboard".
 // Assumes nothing.
 ghost use Rattle.keyboard.specs.Keyboard.{reported, fetched, lit};
 ghost use Rattle.keyboard.specs.Idle.{idled, clocked};
@@ -8,8 +8,7 @@ ghost use Rattle.keyboard.specs.Lent.{LentChanged, LentFetched, LentAnswered, Le
 use super::{Got, Keyboard};
 use codes::KbHidReport;
 
-#[unsafe(no_mangle)]
-pub extern "C" fn keyboard_set_keyboard_report(kb: &mut Keyboard, report: KbHidReport) -> bool
+pub fn keyboard_set_keyboard_report(kb: &mut Keyboard, report: KbHidReport) -> bool
     ensures { LentChanged (reported kb.old report) result kb.new }
 {
     let done = (*kb).set_keyboard_report(report);
@@ -17,8 +16,7 @@ pub extern "C" fn keyboard_set_keyboard_report(kb: &mut Keyboard, report: KbHidR
     done.changed
 }
 
-#[unsafe(no_mangle)]
-pub extern "C" fn keyboard_get_report(kb: &mut Keyboard, kind: u8, id: u8) -> Got
+pub fn keyboard_get_report(kb: &mut Keyboard, kind: u8, id: u8) -> Got
     ensures { LentFetched (fetched kb.old kind id) result kb.new }
 {
     let done = (*kb).get_report(kind, id);
@@ -26,8 +24,7 @@ pub extern "C" fn keyboard_get_report(kb: &mut Keyboard, kind: u8, id: u8) -> Go
     done.got
 }
 
-#[unsafe(no_mangle)]
-pub extern "C" fn keyboard_set_report(kb: &mut Keyboard, kind: u8, id: u8, bytes: &[u8]) -> u8
+pub fn keyboard_set_report(kb: &mut Keyboard, kind: u8, id: u8, bytes: &[u8]) -> u8
     ensures { LentAnswered (lit kb.old kind id bytes.now) result kb.new }
 {
     let done = (*kb).set_report(kind, id, bytes);
@@ -35,8 +32,7 @@ pub extern "C" fn keyboard_set_report(kb: &mut Keyboard, kind: u8, id: u8, bytes
     done.number
 }
 
-#[unsafe(no_mangle)]
-pub extern "C" fn keyboard_set_idle(kb: &mut Keyboard, rate: u8) -> u8
+pub fn keyboard_set_idle(kb: &mut Keyboard, rate: u8) -> u8
     ensures { LentAnswered (idled kb.old rate) result kb.new }
 {
     let done = (*kb).set_idle(rate);
@@ -44,8 +40,7 @@ pub extern "C" fn keyboard_set_idle(kb: &mut Keyboard, rate: u8) -> u8
     done.number
 }
 
-#[unsafe(no_mangle)]
-pub extern "C" fn keyboard_clock(kb: &mut Keyboard) -> bool
+pub fn keyboard_clock(kb: &mut Keyboard) -> bool
     ensures { LentClocked (clocked kb.old) result kb.new }
 {
     let done = (*kb).clock();

@@ -1,6 +1,7 @@
 // keyberon's keyboard.rs: the last report, the lights, and the requests that the USB stack hands on; idle.rt has the idle clock
 // and descriptor.rt what the device says of itself. By value; lent.rt has the same calls over a record that is lent, for C and
-// Rust to link, linked.rt what they link beside those, and through.rt calls the lent ones with a record that is at hand.
+// Rust to link by the crate keyboard_c, linked.rt what they link beside those, and through.rt calls the lent ones with a record
+// that is at hand.
 // Document 01, "Report and keyboard".
 // Assumes nothing.
 #![tactic(auto)]
@@ -19,7 +20,7 @@ use codes::KbHidReport;
 
 // Every value of it is legal.
 #[repr(C)]
-#[derive(Drop)]
+#[derive(Clone, Copy, Drop)]
 pub struct Keyboard {
     pub report: KbHidReport,
     pub num: bool,
@@ -33,7 +34,7 @@ pub struct Keyboard {
 }
 
 #[repr(C)]
-#[derive(Drop)]
+#[derive(Clone, Copy, Drop)]
 pub struct Changed {
     pub changed: bool,
     pub keyboard: Keyboard,
@@ -41,14 +42,14 @@ pub struct Changed {
 
 // A refusal's number or 0, and the report; a refused one is zero.
 #[repr(C)]
-#[derive(Drop)]
+#[derive(Clone, Copy, Drop)]
 pub struct Got {
     pub number: u8,
     pub report: KbHidReport,
 }
 
 #[repr(C)]
-#[derive(Drop)]
+#[derive(Clone, Copy, Drop)]
 pub struct Fetched {
     pub got: Got,
     pub keyboard: Keyboard,
@@ -56,14 +57,14 @@ pub struct Fetched {
 
 // A refusal's number or 0.
 #[repr(C)]
-#[derive(Drop)]
+#[derive(Clone, Copy, Drop)]
 pub struct Answered {
     pub number: u8,
     pub keyboard: Keyboard,
 }
 
 #[repr(C)]
-#[derive(Drop)]
+#[derive(Clone, Copy, Drop)]
 pub struct Clocked {
     pub due: bool,
     pub keyboard: Keyboard,

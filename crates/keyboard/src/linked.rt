@@ -1,5 +1,5 @@
-// What C and Rust link beside the lent calls: a fresh keyboard, so that nobody makes one by hand, and what the device says of
-// itself. Document 01, "Report and keyboard".
+// What C and Rust link beside the lent calls, by the crate keyboard_c: a fresh keyboard, so that nobody makes one by hand, and
+// what the device says of itself. Document 01, "Report and keyboard".
 // Assumes nothing.
 ghost use Rattle.std.specs.Prelude.{◌≡◌};
 ghost use Rattle.keyboard.specs.Keyboard.{fresh};
@@ -8,16 +8,15 @@ ghost use Rattle.keyboard.specs.Lent.{LentDescribed};
 
 use super::Keyboard;
 
-#[unsafe(no_mangle)]
-pub extern "C" fn keyboard_new() -> Keyboard
+pub fn keyboard_new() -> Keyboard
     ensures { result ≡ fresh }
 {
     Keyboard::new()
 }
 
 // The descriptor's 71 bytes at the buffer's start, and 0; or 12, and nothing written, where they do not fit.
-#[unsafe(no_mangle)]
-pub extern "C" fn keyboard_report_descriptor(out: &mut [u8]) -> u8
+#[tactic(auto, using(crate::proofs::Room::short))]
+pub fn keyboard_report_descriptor(out: &mut [u8]) -> u8
     ensures { LentDescribed out.old result out.new }
 {
     if out.len() < 71 {
@@ -32,15 +31,13 @@ pub extern "C" fn keyboard_report_descriptor(out: &mut [u8]) -> u8
     0
 }
 
-#[unsafe(no_mangle)]
-pub extern "C" fn keyboard_subclass() -> u8
+pub fn keyboard_subclass() -> u8
     ensures { result ≡ subclass_number }
 {
     Keyboard::subclass()
 }
 
-#[unsafe(no_mangle)]
-pub extern "C" fn keyboard_protocol() -> u8
+pub fn keyboard_protocol() -> u8
     ensures { result ≡ protocol_number }
 {
     Keyboard::protocol()
