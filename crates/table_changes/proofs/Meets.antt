@@ -9,7 +9,7 @@ use lib.Dec.{eqb}
 use lib.ListN.{length}
 use Rattle.lists.specs.Lists.{alike}
 use Rattle.lists.proofs.Laws.{alike_not}
-use Rattle.image.specs.Tree.{Action, Actions, end, ◌&◌, named, tree}
+use Rattle.image.specs.Tree.{Action, Actions, end, named, tree}
 use Rattle.image.proofs.Entries.{length_words}
 use Rattle.table_changes.specs.Same.{same, same_all}
 use Rattle.table_changes.specs.Inside.{Met, words_of}

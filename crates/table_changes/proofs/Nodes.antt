@@ -6,7 +6,7 @@ use mathlib.Core.List.{List, [], ◌∷◌}
 use native.Mathlib.Omega.{arith}
 use lib.Dec.{eqb, ltb}
 use Rattle.lists.specs.Lists.{every}
-use Rattle.image.specs.Tree.{Action, NoOp, MultipleKeyCodes, MultipleActions, HoldTap, end, named, meaning, tree}
+use Rattle.image.specs.Tree.{Action, end, named, meaning, tree}
 use Rattle.image.specs.Words.{records_of, records_start, list_start, words_from, field_of}
 use Rattle.image.specs.Record.{record_of, action_at, children_in}
 use Rattle.image.specs.Sound.{Meant}
