@@ -152,9 +152,9 @@ module _ (img : List ℕ) (shape : Shape) (e : check_of img ≡ Accepted shape) 
   table = table_of img
 
   -- what the answer of such a call says
-  said_in : (k : Call) (l : Model) (buffer : List ℕ) → Lawful img l → 64 ≤ length buffer → said_in (reply img k (pack l) buffer) ≡ said_by (call table k l)
+  said_in_lem : (k : Call) (l : Model) (buffer : List ℕ) → Lawful img l → 64 ≤ length buffer → said_in (reply img k (pack l) buffer) ≡ said_by (call table k l)
   unfolding OfCalls
-  said_in k l buffer w h =
+  said_in_lem k l buffer w h =
       let names = (of_calls img k (pack l) buffer).1 in
       let marks = marks_are img shape e k l buffer w h in
       let told : codes_told (reply img k (pack l) buffer) ≡ codes (call table k l).layout.states = ap codes_told (reply_is img shape e k l buffer w h) ∙ given_codes (call table k l) buffer in
@@ -179,7 +179,7 @@ module _ (img : List ℕ) (shape : Shape) (e : check_of img ≡ Accepted shape) 
       let next : here.layout ≡ pack r.layout = ap (λ (x : Reply). x.layout) (reply_is img shape e k.call l k.buffer w h.0) in
       let t = full ks r.layout (stays_lawful img shape e k.call l w) h.1 (subst (λ (lay : Layout). every (λ n. eqb n 0) (counts_in (replies img ks lay)) ≡ true) next q.1) in (
         ap₂ ◌∷◌
-            (said_in k.call l k.buffer w h.0 ∙ said_by_lem _ _ m)
+            (said_in_lem k.call l k.buffer w h.0 ∙ said_by_lem _ _ m)
             (ap (λ (lay : Layout). map said_in (replies img ks lay)) next ∙ t.0 ∙ ap (says_by kept table (calls_of ks)) (sym m.layout)),
         ap (λ (lay : Layout). last_layout lay (replies img ks lay)) next ∙ t.1 ∙ ap (λ (x : Model). pack (leaves_by kept table (calls_of ks) x)) (sym m.layout),
       )

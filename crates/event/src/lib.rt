@@ -6,20 +6,20 @@
 ghost use Rattle.std.specs.Prelude.{◌≡◌};
 ghost use Rattle.event.specs.Bytes.{coord_of, bytes_of, read_of, read_values};
 
-#[derive(Drop)]
+#[derive(Clone, Copy)]
 pub enum Event {
     Release(u8, u8),
     Press(u8, u8),
 }
 
-#[derive(Drop)]
+#[derive(Clone, Copy)]
 pub struct Coord {
     pub i: u8,
     pub j: u8,
 }
 
 // What three bytes say.
-#[derive(Drop)]
+#[derive(Clone, Copy)]
 pub enum Read {
     Event(Event),
     Nothing,

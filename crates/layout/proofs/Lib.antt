@@ -7,7 +7,7 @@ pub mod Moves
 pub mod Presses
 pub mod States
 pub mod Calls
-pub mod Told
+pub mod Known
 pub mod Rooted
 pub mod Lawful
 pub mod Reach

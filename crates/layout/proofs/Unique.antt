@@ -2,7 +2,7 @@
 use mathlib.Core.Path.{refl, ap, ◌∙◌, sym}
 use Rattle.decides.specs.Decides.{Decides}
 use Rattle.decides.proofs.Both.{both}
-use Rattle.layout.proofs.Told.{handed_one, shown_one}
+use Rattle.layout.proofs.Known.{handed_one, shown_one}
 use Rattle.layout.specs.contracts.layout.Layout.new as N
 use Rattle.layout.specs.contracts.layout.Layout.event as E
 use Rattle.layout.specs.contracts.layout.Layout.tick as T

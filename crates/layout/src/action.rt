@@ -17,7 +17,7 @@ use image::{Action, Entry, action_at, entry_at};
 
 // Where and how an action runs: in a table of so many layers, at the coordinates of its key, with its delay, and with the
 // first queued release of them.
-#[derive(Drop)]
+#[derive(Clone, Copy)]
 pub(crate) struct Setting {
     pub layers: usize,
     pub coord: Coord,

@@ -11,34 +11,34 @@ use super::layout::Layout;
 use event::Coord;
 
 // What a key that is down does: it holds a code, or a layer.
-#[derive(Drop)]
+#[derive(Clone, Copy)]
 pub enum State {
     NormalKey { keycode: u8, coord: Coord },
     LayerModifier { value: u16, coord: Coord },
 }
 
 // A state in an array: the prover covers an array of structs in a struct, and no array of enums.
-#[derive(Drop)]
+#[derive(Clone, Copy)]
 pub struct Slot {
     pub state: State,
 }
 
 // A hold-tap that waits: its coordinates, ticks left, and record.
-#[derive(Drop)]
+#[derive(Clone, Copy)]
 pub struct WaitingState {
     pub coord: Coord,
     pub left: u16,
     pub number: u16,
 }
 
-#[derive(Drop)]
+#[derive(Clone, Copy)]
 pub enum Waiting {
     Nothing,
     On(WaitingState),
 }
 
 // The default layer, the states held, the places past their number zero, and what waits.
-#[derive(Drop)]
+#[derive(Clone, Copy)]
 pub struct Active {
     pub default_layer: usize,
     pub states: [Slot; Layout::STATES],

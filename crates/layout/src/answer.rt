@@ -12,20 +12,20 @@ use super::queue::Queue;
 use refusal::{Refusal, Verdict};
 
 // How many codes were written, and what was done; or a refusal and its place.
-#[derive(Drop)]
+#[derive(Clone, Copy)]
 pub enum Answer {
     Done(usize, Notes),
     Refused(Refusal, usize),
 }
 
-#[derive(Drop)]
+#[derive(Clone, Copy)]
 pub struct Answered {
     pub answer: Answer,
     pub layout: Layout,
 }
 
 // The paper's number of an answer, its place, and its values.
-#[derive(Drop)]
+#[derive(Clone, Copy)]
 pub struct Told {
     pub number: u8,
     pub place: usize,

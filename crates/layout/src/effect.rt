@@ -15,14 +15,14 @@ use super::notes::{Notes, note_dropped};
 use event::Coord;
 
 // How far a call has come: what it has changed, and what it has done.
-#[derive(Drop)]
+#[derive(Clone, Copy)]
 pub(crate) struct Progress {
     pub active: Active,
     pub notes: Notes,
 }
 
 // The default layer, how many states were held before and how many are added, what waits, and what was done.
-#[derive(Drop)]
+#[derive(Clone, Copy)]
 pub(crate) struct Effect {
     pub default_layer: usize,
     pub held: usize,

@@ -18,14 +18,14 @@ use image::{Checked, check};
 use refusal::{Refusal, Verdict};
 
 // What running actions changes, and the queued events.
-#[derive(Drop)]
+#[derive(Clone, Copy)]
 pub struct Layout {
     pub active: Active,
     pub queue: Queue,
 }
 
 // Whether a call is refused, and if not, how many layers the table has.
-#[derive(Drop)]
+#[derive(Clone, Copy)]
 struct Judged {
     verdict: Verdict,
     layers: usize,

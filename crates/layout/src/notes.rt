@@ -7,26 +7,26 @@ ghost use Rattle.layout.specs.Notes.{no_notes as none, note_acted, note_decision
 use event::{Coord, Event};
 
 // How a hold-tap is decided.
-#[derive(Drop)]
+#[derive(Clone, Copy)]
 pub enum Way {
     Tap,
     Hold,
 }
 
-#[derive(Drop)]
+#[derive(Clone, Copy)]
 pub enum Decision {
     Nothing,
     Made(Coord, Way),
 }
 
-#[derive(Drop)]
+#[derive(Clone, Copy)]
 pub enum Acted {
     Nothing,
     On(Event),
 }
 
 // The event acted on, if any, how many decisions were made, the decisions in their order, and how many states were dropped.
-#[derive(Drop)]
+#[derive(Clone, Copy)]
 pub struct Notes {
     pub acted: Acted,
     pub made: u8,

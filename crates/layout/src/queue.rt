@@ -10,20 +10,20 @@ use super::active::is_same;
 use super::layout::Layout;
 use event::{Coord, Event};
 
-#[derive(Drop)]
+#[derive(Clone, Copy)]
 pub struct Stacked {
     pub event: Event,
     pub since: u16,
 }
 
-#[derive(Drop)]
+#[derive(Clone, Copy)]
 pub struct Queue {
     pub stacked: [Stacked; Layout::QUEUE],
     pub queued: usize,
 }
 
 // The age of a queued release, or none.
-#[derive(Drop)]
+#[derive(Clone, Copy)]
 pub enum Found {
     None,
     At(u16),
