@@ -73,12 +73,6 @@ line_one [] n e = absurd (omega arith)
 line_one (a ∷ []) n e = rw (ne_eqb a 116 e, and-false (eqb a 112), and-false (eqb a 114))
 line_one (a ∷ b ∷ l) n e = absurd (omega arith)
 
-pub line_none : (l : List ℕ) → (length l ≡ 1 → ⊥) → length l < 2 → line_of l ≡ line.Unread
-unfolding line_of starts_with
-line_none [] n h = refl
-line_none (a ∷ []) n h = absurd (n refl)
-line_none (a ∷ b ∷ l) n h = absurd (omega arith)
-
 module _ (l : List ℕ) (n : length l ≡ 1 → ⊥) where
   pub line_parted : (get_or l 1 0 ≡ 32 → ⊥) → line_of l ≡ line.Unread
   unfolding line_of starts_with
