@@ -1,5 +1,5 @@
 /*
- * The proved keyboard, for C to link: the crate keyboard of this repository, by its exported calls (docs/LINK.md).
+ * The proved keyboard, for C to link: what the crate keyboard_c of this repository exports of keyboard (docs/LINK.md).
  *
  * The record is the caller's: keyboard_new makes it, a call is lent it and updates it. A call that is refused answers the
  * refusal's number (docs/REFUSALS.md) and leaves the record and the buffer as they were; 0 is no refusal.

@@ -10,9 +10,14 @@ export GLIBC_TUNABLES=glibc.cpu.hwcaps=-AVX,-AVX2,-AVX512F,-AVX512VL,-AVX_Fast_U
 
 cargo build --release --offline --locked --manifest-path "$here/Cargo.toml" --target-dir "$root/oracle/target/speed" >&2
 bench=$root/oracle/target/speed/release/bench
-pace=$root/target/bin/pace
+pace=$root/crates/pace/out/pace
 room=$(mktemp -d)
 trap 'rm -rf "$room"' EXIT
+
+# Proves and builds a program of the repository, in its crate's out/; rt then runs it, with nothing to read.
+build_program() { # NAME
+    (cd "$root/crates/$1" && rt run </dev/null >&2)
+}
 
 needs() { # TOOL, and the package of Debian that has it
     if ! command -v "$1" >"$room/path"; then
