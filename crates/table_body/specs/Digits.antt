@@ -1,10 +1,10 @@
 -- A number's digits. 48 is the digit 0, and 97 is a.
 -- Assumes nothing.
-use Rattle.std.specs.Prelude.{ℕ, zero, suc, ◌+◌, ◌-◌, ◌/◌, ◌%◌, ◌^◌, ◌<◌, ◌≤◌, cond, List, [], ◌∷◌, ◌++◌, nat_lt}
+use Rattle.std.specs.Prelude.{ℕ, zero, suc, ◌+◌, ◌-◌, ◌/◌, ◌%◌, ◌^◌, ◌<◌, ◌≤◌, cond, List, [], ◌∷◌, ◌++◌, ltb}
 
 -- the digit below 16: `0` to `9`, then `a` to `f`
 abbrev pub digit_ascii : ℕ → ℕ
-digit_ascii d = cond (nat_lt d 10) (48 + d) (87 + d)
+digit_ascii d = cond (ltb d 10) (48 + d) (87 + d)
 
 -- the last k digits of n in base b, the most significant first
 abbrev pub last_digits : ℕ → ℕ → ℕ → List ℕ

@@ -1,5 +1,5 @@
 -- `replay::say::is_filled` is safe and ends. Assumes nothing.
-use Rattle.std.proofs.Common.{◌-◌, ◌≤◌}
+use Rattle.std.proofs.Common.{length, ◌-◌, ◌≤◌}
 use Rattle.replay.proofs.say.is_filled.Given as goal
 
 abbrev pub invariant-loop-i : goal.invariant-loop-i
