@@ -39,9 +39,9 @@ fn first_word(asked: Texts) -> Text {
 }
 
 // How many bytes a call may write: none where it is refused.
-fn written(made: Made) -> usize {
+fn written(made: &Made) -> usize {
     match made {
-        Made::Bytes(count) => count,
+        Made::Bytes(count) => *count,
         Made::Refused(_, _) => 0,
     }
 }
@@ -69,7 +69,7 @@ fn called(asked: Texts, bytes: &[u8], out: &mut [u8]) -> Made {
 // A call into a lent buffer, and its answer.
 fn answered(stdout: Stdout, asked: Texts, bytes: &[u8], out: &mut [u8]) -> Text {
     let made = called(asked, bytes, out);
-    told(stdout, first_word(asked), written(made), made.told(), out)
+    told(stdout, first_word(asked), written(&made), made.told(), out)
 }
 
 // A call into a buffer of as many bytes as there is room.
