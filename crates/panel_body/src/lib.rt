@@ -152,12 +152,7 @@ fn step(
 
 // Answers lines to the end of the input. Nothing says that it has one, so the loop counts its turns down from a number
 // that no run uses up.
-fn answer_all(
-    rt: &HostRuntime,
-    image: &[u8],
-    input: &mut [u8; INPUT],
-    line: &mut [u8; LINE],
-) {
+fn answer_all(rt: &HostRuntime, image: &[u8], input: &mut [u8; INPUT], line: &mut [u8; LINE]) {
     let mut stand = Stand {
         panel: Panel {
             layout: Layout::new(),

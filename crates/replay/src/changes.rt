@@ -40,5 +40,10 @@ pub fn answer(stdout: Stdout, first: Bytes, second: Bytes, room: u16) -> Text {
     }
     let one = first.bytes;
     let other = second.bytes;
-    ask(stdout, front(&one, first.len), front(&other, second.len), room)
+    ask(
+        stdout,
+        front(&one, first.len),
+        front(&other, second.len),
+        room,
+    )
 }

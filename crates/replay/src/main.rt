@@ -154,12 +154,7 @@ fn on_board(asked: Board, of: [usize; 8], line: &[u8], desk: Desk) -> Done {
     Done { desk: after, text }
 }
 
-fn answer(
-    rt: &HostRuntime,
-    line: &[u8],
-    table: &mut [u8; table::ROOM],
-    desk: Desk,
-) -> Done {
+fn answer(rt: &HostRuntime, line: &[u8], table: &mut [u8; table::ROOM], desk: Desk) -> Done {
     let asked = commands::read(line);
     let of = asked.of;
     let command = asked.command;
