@@ -164,8 +164,7 @@ fn answer_all(rt: &HostRuntime, image: &[u8], input: &mut [u8; INPUT], line: &mu
     let mut over = false;
     while turns > 0 && !over {
         stand = step(rt, image, input, line, stand);
-        let reading = stand.reading;
-        over = reading.over;
+        over = stand.reading.over;
         turns -= 1;
     }
 }

@@ -240,8 +240,7 @@ fn run(
     let mut over = false;
     while turns > 0 && !over {
         stand = step(rt, input, line, table, stand);
-        let reading = stand.reading;
-        over = reading.over;
+        over = stand.reading.over;
         turns -= 1;
     }
 }
