@@ -6,16 +6,20 @@ use Rattle.decides.specs.Decides.{Decides, DecidesGiven}
 use Rattle.decides.proofs.Both.{both}
 use Rattle.console.specs.Reading.{advanced_reading}
 use Rattle.console.specs.contracts.advance as A
+use Rattle.console.specs.contracts.write_all as B
 use Rattle.console.specs.contracts.write_line as W
 
 -- what came: how many bytes are here, and the input's buffer
-pub advance : DecidesGiven A.ended (ℕ × List ℕ) (λ κs a r ws. (r.end, ws.0)) (λ M 𝓤 𝓛. A.spec 𝓛) (λ M 𝓤 𝓛. A.clauses 𝓛)
+pub advance : DecidesGiven A.ended (ℕ × List ℕ) (λ κs a r ws. (r.end, ws.1.0)) (λ M 𝓤 𝓛. A.spec 𝓛) (λ M 𝓤 𝓛. A.clauses 𝓛)
 advance M 𝓤 𝓛 m run =
     record {
       same = refl;
       free = λ κs a g. refl;
-      only = λ κs a g g' x x' ws ws'. both 𝓤 _ _ _ (λ p q e. (p.is ∙ ap (advanced_reading _ _ _) (ap (λ z. z.0) e) ∙ sym q.is, ap₂ (λ i l. (i, (l, (tt, tt)))) (ap (λ z. z.1) e) (p.held ∙ sym q.held)));
+      only = λ κs a g g' x x' ws ws'. both 𝓤 _ _ _ (λ p q e. (p.is ∙ ap (advanced_reading _ _ _) (ap (λ z. z.0) e) ∙ sym q.is, ap₂ (λ i l. (tt, (i, (l, (tt, tt))))) (ap (λ z. z.1) e) (p.held ∙ sym q.held)));
     }
+
+pub write_all : Decides B.ended (λ M 𝓤 𝓛. B.spec 𝓛) (λ M 𝓤 𝓛. B.clauses 𝓛)
+write_all M 𝓤 𝓛 m r = record { same = refl; free = λ κs a g. refl; only = λ κs a g g' x x' ws ws'. both 𝓤 _ _ _ (λ p q. (p ∙ sym q, refl)) }
 
 pub write_line : Decides W.ended (λ M 𝓤 𝓛. W.spec 𝓛) (λ M 𝓤 𝓛. W.clauses 𝓛)
 write_line M 𝓤 𝓛 m r = record { same = refl; free = λ κs a g. refl; only = λ κs a g g' x x' ws ws'. both 𝓤 _ _ _ (λ p q. (p ∙ sym q, refl)) }

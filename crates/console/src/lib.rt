@@ -2,29 +2,44 @@
 // of reading is promised, and of writing that it returns. Assumes nothing.
 #![tactic(auto)]
 
-ghost use Rattle.std.specs.Prelude.{◌≡◌};
+ghost use Rattle.std.specs.Prelude.{◌≡◌, ◌≤◌, length};
 ghost use Rattle.console.specs.Reading.{Advances};
 
-use libc::{STDIN_FILENO, STDOUT_FILENO};
+use std::io::{Read, Stdin, Stdout, Write};
 use text::{Reading, Text, front, gather};
+
+// How many bytes a read brings; none where it fails, which is the end of the input.
+fn read_some(stdin: Stdin, input: &mut [u8]) -> usize
+    ensures { result ≤ length input.old }
+{
+    let mut from = stdin;
+    from.read(input).unwrap_or(0)
+}
 
 // A part of a line, up to its end if that is here; or a read, where all that was here is taken. A read that fails is the end of
 // the input.
-pub fn advance(input: &mut [u8], line: &mut [u8], reading: Reading) -> Reading
+pub fn advance(stdin: Stdin, input: &mut [u8], line: &mut [u8], reading: Reading) -> Reading
     ensures { Advances input.old reading line.old result input.new line.new }
 {
     if reading.end <= reading.at {
-        let got = libc::read(STDIN_FILENO, input);
-        return reading.filled(io::count(got, input));
+        return reading.filled(read_some(stdin, input));
     }
     gather(input, line, reading)
 }
 
-// Writes a line. Nothing can be promised of it but that it returns; where it fails there is nobody to tell.
-pub fn write_line(text: Text)
+// Writes bytes. Nothing can be promised of it but that it returns; where it fails there is nobody to tell.
+pub fn write_all(stdout: Stdout, bytes: &[u8])
+    ensures { result ≡ tt }
+{
+    let mut to = stdout;
+    let _ = to.write_all(bytes);
+}
+
+// Writes a line, likewise.
+pub fn write_line(stdout: Stdout, text: Text)
     ensures { result ≡ tt }
 {
     let whole = text.put(b'\n');
     let bytes = whole.bytes;
-    io::write_all(STDOUT_FILENO, front(&bytes, whole.len));
+    write_all(stdout, front(&bytes, whole.len));
 }

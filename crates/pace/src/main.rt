@@ -7,7 +7,9 @@ mod keys;
 mod reports;
 mod scans;
 
-use libc::{STDIN_FILENO, STDOUT_FILENO};
+ghost use Rattle.std.specs.Prelude.{◌+◌, ◌≤◌, length};
+
+use std::io::{Read, Stdin, Write};
 
 // What each script is stands in the file that runs it.
 fn drive(input: &[u8], out: &mut [u8]) {
@@ -30,10 +32,35 @@ fn drive(input: &[u8], out: &mut [u8]) {
     }
 }
 
-fn main() {
-    let mut input = io::large_buffer();
-    let n = io::read_full(STDIN_FILENO, &mut input);
+// How many bytes a read brings behind the first n; none where it fails, or at the buffer's end.
+fn read_behind(stdin: Stdin, bytes: &mut [u8], n: usize) -> usize
+    requires { n ≤ length bytes.old }
+    ensures { n + result ≤ length bytes.old }
+{
+    let mut from = stdin;
+    from.read(&mut bytes[n..]).unwrap_or(0)
+}
+
+// Reads until the buffer is full, the input ends or a read fails, and says how many bytes came.
+fn read_full(stdin: Stdin, bytes: &mut [u8]) -> usize
+    ensures { result ≤ length bytes.old }
+{
+    let mut n = 0;
+    while n < bytes.len() {
+        let count = read_behind(stdin, bytes, n);
+        if count == 0 {
+            return n;
+        }
+        n += count;
+    }
+    n
+}
+
+fn main(rt: HostRuntime) {
+    let mut input = [0u8; 65536];
+    let n = read_full(rt.stdin(), &mut input);
     let mut out = [0u8; 384];
     drive(&input[..n], &mut out);
-    io::write_all(STDOUT_FILENO, &out);
+    let mut to = rt.stdout();
+    let _ = to.write_all(&out); // where it fails there is nobody to tell
 }

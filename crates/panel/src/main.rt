@@ -1,6 +1,6 @@
 // The program of document 01, Bench cases; here run on its image Z and its five lines. Assumes nothing.
 #![tactic(auto)]
 
-fn main() {
-    panel_body::run();
+fn main(rt: HostRuntime) {
+    panel_body::run(&rt);
 }

@@ -123,30 +123,36 @@ fn answer(image: &[u8], panel: Panel, line: &[u8]) -> Done
 }
 
 // The answer to the line that is held.
-fn reply(image: &[u8], panel: Panel, line: &[u8]) -> Panel {
+fn reply(rt: &HostRuntime, image: &[u8], panel: Panel, line: &[u8]) -> Panel {
     let done = answer(image, panel, line);
     let text = done.text;
-    write_line(text);
+    write_line(rt.stdout(), text);
     done.panel
 }
 
 // A step of reading, and the answer to the line that is held, where it ended.
-fn step(image: &[u8], input: &mut [u8; INPUT], line: &mut [u8; LINE], stand: Stand) -> Stand {
+fn step(
+    rt: &HostRuntime,
+    image: &[u8],
+    input: &mut [u8; INPUT],
+    line: &mut [u8; LINE],
+    stand: Stand,
+) -> Stand {
     let panel = stand.panel;
     let before = stand.reading;
-    let reading = advance(input, line, before);
+    let reading = advance(rt.stdin(), input, line, before);
     if !reading.ended {
         return Stand { panel, reading };
     }
     Stand {
-        panel: reply(image, panel, front(line, reading.held)),
+        panel: reply(rt, image, panel, front(line, reading.held)),
         reading: reading.answered(),
     }
 }
 
 // Answers lines to the end of the input. Nothing says that it has one, so the loop counts its turns down from a number
 // that no run uses up.
-fn answer_all(image: &[u8], input: &mut [u8; INPUT], line: &mut [u8; LINE]) {
+fn answer_all(rt: &HostRuntime, image: &[u8], input: &mut [u8; INPUT], line: &mut [u8; LINE]) {
     let mut stand = Stand {
         panel: Panel {
             layout: Layout::new(),
@@ -157,9 +163,8 @@ fn answer_all(image: &[u8], input: &mut [u8; INPUT], line: &mut [u8; LINE]) {
     let mut turns = u64::MAX;
     let mut over = false;
     while turns > 0 && !over {
-        stand = step(image, input, line, stand);
-        let reading = stand.reading;
-        over = reading.over;
+        stand = step(rt, image, input, line, stand);
+        over = stand.reading.over;
         turns -= 1;
     }
 }
@@ -172,25 +177,25 @@ fn refusal_of(checked: Checked) -> Text
     refused(told.number, told.place)
 }
 
-fn with_image(image: &[u8]) {
+fn with_image(rt: &HostRuntime, image: &[u8]) {
     let checked = image::check(image);
     let Checked::Accepted(_) = checked else {
-        write_line(refusal_of(checked));
+        write_line(rt.stdout(), refusal_of(checked));
         return;
     };
     let mut input = [0u8; INPUT];
     let mut line = [0u8; LINE];
-    answer_all(image, &mut input, &mut line);
+    answer_all(rt, image, &mut input, &mut line);
 }
 
 // The whole program. Nothing can be promised of what it reads and writes: it ends, and is safe.
-pub fn run()
+pub fn run(rt: &HostRuntime)
     ensures { result ≡ tt }
 {
     let mut bytes = [0u8; table::ROOM];
-    let taken = table::take(&mut bytes);
+    let taken = table::take(rt, &mut bytes);
     match taken {
-        Taken::Bytes(n) => with_image(front(&bytes, n)),
+        Taken::Bytes(n) => with_image(rt, front(&bytes, n)),
         Taken::Nothing => {}
     }
 }

@@ -1,6 +1,6 @@
 // `panel` where there is no `table.img`: it writes nothing to standard output. Assumes nothing.
 #![tactic(auto)]
 
-fn main() {
-    panel_body::run();
+fn main(rt: HostRuntime) {
+    panel_body::run(&rt);
 }

@@ -1,6 +1,6 @@
 // `panel` on odd lines: most cannot be read, are answered with `?` and change nothing. Assumes nothing.
 #![tactic(auto)]
 
-fn main() {
-    panel_body::run();
+fn main(rt: HostRuntime) {
+    panel_body::run(&rt);
 }

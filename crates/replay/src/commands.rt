@@ -23,7 +23,7 @@ pub enum Table {
 }
 
 // A table's text into its image, and back.
-#[derive(Drop)]
+#[derive(Clone, Copy, Drop)]
 pub enum Texts {
     Write,
     Print,

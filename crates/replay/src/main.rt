@@ -154,7 +154,7 @@ fn on_board(asked: Board, of: [usize; 8], line: &[u8], desk: Desk) -> Done {
     Done { desk: after, text }
 }
 
-fn answer(line: &[u8], table: &mut [u8; table::ROOM], desk: Desk) -> Done {
+fn answer(rt: &HostRuntime, line: &[u8], table: &mut [u8; table::ROOM], desk: Desk) -> Done {
     let asked = commands::read(line);
     let of = asked.of;
     let command = asked.command;
@@ -162,11 +162,17 @@ fn answer(line: &[u8], table: &mut [u8; table::ROOM], desk: Desk) -> Done {
         Command::Table(asked) => on_table(asked, line, table, desk),
         Command::Texts(asked) => Done {
             desk,
-            text: texts::answer(asked, words::hex_at(line, 1), words::low_word(of[2])),
+            text: texts::answer(
+                rt.stdout(),
+                asked,
+                words::hex_at(line, 1),
+                words::low_word(of[2]),
+            ),
         },
         Command::Compare => Done {
             desk,
             text: changes::answer(
+                rt.stdout(),
                 words::hex_at(line, 1),
                 words::hex_at(line, 2),
                 words::low_word(of[3]),
@@ -185,15 +191,22 @@ fn answer(line: &[u8], table: &mut [u8; table::ROOM], desk: Desk) -> Done {
 }
 
 // The answer to the line that is held.
-fn reply(line: &[u8; LINE], held: usize, table: &mut [u8; table::ROOM], desk: Desk) -> Desk {
-    let done = answer(front(line, held), table, desk);
+fn reply(
+    rt: &HostRuntime,
+    line: &[u8; LINE],
+    held: usize,
+    table: &mut [u8; table::ROOM],
+    desk: Desk,
+) -> Desk {
+    let done = answer(rt, front(line, held), table, desk);
     let text = done.text;
-    write_line(text);
+    write_line(rt.stdout(), text);
     done.desk
 }
 
 // A step of reading, and the answer to the line that is held, where it ended.
 fn step(
+    rt: &HostRuntime,
     input: &mut [u8; INPUT],
     line: &mut [u8; LINE],
     table: &mut [u8; table::ROOM],
@@ -201,19 +214,24 @@ fn step(
 ) -> Stand {
     let desk = stand.desk;
     let before = stand.reading;
-    let reading = advance(input, line, before);
+    let reading = advance(rt.stdin(), input, line, before);
     if !reading.ended {
         return Stand { desk, reading };
     }
     Stand {
-        desk: reply(line, reading.held, table, desk),
+        desk: reply(rt, line, reading.held, table, desk),
         reading: reading.answered(),
     }
 }
 
 // Answers lines to the end of the input. Nothing says that it has one, so the loop counts its turns down from a number
 // that no run uses up.
-fn run(input: &mut [u8; INPUT], line: &mut [u8; LINE], table: &mut [u8; table::ROOM]) {
+fn run(
+    rt: &HostRuntime,
+    input: &mut [u8; INPUT],
+    line: &mut [u8; LINE],
+    table: &mut [u8; table::ROOM],
+) {
     let mut stand = Stand {
         desk: start(),
         reading: Reading::start(),
@@ -221,16 +239,15 @@ fn run(input: &mut [u8; INPUT], line: &mut [u8; LINE], table: &mut [u8; table::R
     let mut turns = u64::MAX;
     let mut over = false;
     while turns > 0 && !over {
-        stand = step(input, line, table, stand);
-        let reading = stand.reading;
-        over = reading.over;
+        stand = step(rt, input, line, table, stand);
+        over = stand.reading.over;
         turns -= 1;
     }
 }
 
-fn main() {
+fn main(rt: HostRuntime) {
     let mut input = [0u8; INPUT];
     let mut line = [0u8; LINE];
     let mut table = [0u8; table::ROOM];
-    run(&mut input, &mut line, &mut table);
+    run(&rt, &mut input, &mut line, &mut table);
 }

@@ -4,25 +4,26 @@ use super::commands::Texts;
 use super::say;
 use super::say::FILL;
 use super::words::Bytes;
-use libc::STDOUT_FILENO;
+use console::write_all;
 use refusal::Told;
+use std::io::Stdout;
 use table_text::Made;
 use text::{Text, front};
 
 // Writes a piece of a line, with no newline behind it.
-fn write_piece(text: Text) {
+fn write_piece(stdout: Stdout, text: Text) {
     let bytes = text.bytes;
-    io::write_all(STDOUT_FILENO, front(&bytes, text.len));
+    write_all(stdout, front(&bytes, text.len));
 }
 
 // Bytes in hex, `-` for none, behind the answer's first word. Every piece but the last is written, and that one handed
 // back. A piece has 500 bytes, so that their digits fit into a text, with the word and the newline.
-fn put_long(said: Text, bytes: &[u8]) -> Text {
+fn put_long(stdout: Stdout, said: Text, bytes: &[u8]) -> Text {
     let mut text = said;
     let mut at = 0;
     while 500 < bytes.len() - at {
         let end = at + 500;
-        write_piece(text.put_hex(&bytes[at..end]));
+        write_piece(stdout, text.put_hex(&bytes[at..end]));
         text = Text::new();
         at = end;
     }
@@ -38,9 +39,9 @@ fn first_word(asked: Texts) -> Text {
 }
 
 // How many bytes a call may write: none where it is refused.
-fn written(made: Made) -> usize {
+fn written(made: &Made) -> usize {
     match made {
-        Made::Bytes(count) => count,
+        Made::Bytes(count) => *count,
         Made::Refused(_, _) => 0,
     }
 }
@@ -48,14 +49,14 @@ fn written(made: Made) -> usize {
 // The result in hex, as many bytes as a call says that it made; `spilt` where one past them was written. `Text::put_number` puts
 // five digits; no place has more: a line of 65,536 bytes holds a text of at most 32,764, whose first line at fault is at most
 // the 32,765th.
-pub fn told(said: Text, count: usize, refusal: Told, out: &[u8]) -> Text {
+pub fn told(stdout: Stdout, said: Text, count: usize, refusal: Told, out: &[u8]) -> Text {
     if !say::is_filled(out, count) {
         return say::text(b"spilt");
     }
     if refusal.number != 0 {
         return say::refused(refusal.number, refusal.place);
     }
-    put_long(said, front(out, count))
+    put_long(stdout, said, front(out, count))
 }
 
 fn called(asked: Texts, bytes: &[u8], out: &mut [u8]) -> Made {
@@ -66,23 +67,23 @@ fn called(asked: Texts, bytes: &[u8], out: &mut [u8]) -> Made {
 }
 
 // A call into a lent buffer, and its answer.
-fn answered(asked: Texts, bytes: &[u8], out: &mut [u8]) -> Text {
+fn answered(stdout: Stdout, asked: Texts, bytes: &[u8], out: &mut [u8]) -> Text {
     let made = called(asked, bytes, out);
-    told(first_word(asked), written(made), made.told(), out)
+    told(stdout, first_word(asked), written(&made), made.told(), out)
 }
 
 // A call into a buffer of as many bytes as there is room.
-fn ask(asked: Texts, bytes: &[u8], room: u16) -> Text {
+fn ask(stdout: Stdout, asked: Texts, bytes: &[u8], room: u16) -> Text {
     let mut out = [FILL; 65535];
     let n = room as usize;
-    answered(asked, bytes, &mut out[..n])
+    answered(stdout, asked, bytes, &mut out[..n])
 }
 
 // `write HEX ROOM`, `print HEX ROOM`
-pub fn answer(asked: Texts, bytes: Bytes, room: u16) -> Text {
+pub fn answer(stdout: Stdout, asked: Texts, bytes: Bytes, room: u16) -> Text {
     if !bytes.read {
         return say::unread();
     }
     let all = bytes.bytes;
-    ask(asked, front(&all, bytes.len), room)
+    ask(stdout, asked, front(&all, bytes.len), room)
 }

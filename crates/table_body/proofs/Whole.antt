@@ -2,7 +2,7 @@
 use Prim.Native.Nat.{ℕ}
 use mathlib.Core.List.{[], ◌∷◌}
 use mathlib.Core.Path.{◌≡◌, sym}
-use Rattle.io.specs.Digits.{last_digits}
+use Rattle.table_body.specs.Digits.{last_digits}
 use Rattle.text.specs.Text.{put, put_all, decimal_of}
 use Rattle.text.specs.declared.text.Text.{Text}
 use Rattle.text.proofs.Laws.{all_append}

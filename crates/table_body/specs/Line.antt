@@ -1,7 +1,7 @@
 -- The line that is written where a text or an image is refused: document 02, W-201. Bytes are ASCII: 32 is the space.
 -- Assumes nothing.
 use Rattle.std.specs.Prelude.{ℕ, List, [], ◌∷◌, ◌++◌, ◌≡◌}
-use Rattle.io.specs.Digits.{last_digits, IsDigitCount}
+use Rattle.table_body.specs.Digits.{last_digits, IsDigitCount}
 use Rattle.text.specs.Text.{saying, decimal_of}
 use Rattle.text.specs.declared.text.Text.{Text}
 

@@ -1,5 +1,5 @@
 // Standard input, read to its end into a lent buffer. Assumes nothing.
-use libc::STDIN_FILENO;
+use std::io::{Read, Stdin};
 
 // How many bytes came, at most as many as there is room for; nothing where a read failed.
 #[derive(Drop)]
@@ -20,17 +20,23 @@ fn sum(a: usize, b: usize) -> usize {
     if a <= usize::MAX - b { a + b } else { a }
 }
 
-fn read(bytes: &mut [u8]) -> Part {
-    let got = libc::read(STDIN_FILENO, bytes);
-    Part {
-        count: io::count(got, bytes),
-        failed: got < 0,
+fn read(stdin: Stdin, bytes: &mut [u8]) -> Part {
+    let mut from = stdin;
+    match from.read(bytes) {
+        Ok(count) => Part {
+            count,
+            failed: false,
+        },
+        Err(_) => Part {
+            count: 0,
+            failed: true,
+        },
     }
 }
 
-fn read_behind(bytes: &mut [u8], n: usize) -> Part {
+fn read_behind(stdin: Stdin, bytes: &mut [u8], n: usize) -> Part {
     if n <= bytes.len() {
-        return read(&mut bytes[n..]);
+        return read(stdin, &mut bytes[n..]);
     }
     Part {
         count: 0,
@@ -40,11 +46,11 @@ fn read_behind(bytes: &mut [u8], n: usize) -> Part {
 
 // Reads to the input's end, or to the buffer's, where a read brings nothing. Each other turn brings a byte at least, so that
 // no run uses up the turns.
-pub(crate) fn take(bytes: &mut [u8]) -> Taken {
+pub(crate) fn take(stdin: Stdin, bytes: &mut [u8]) -> Taken {
     let mut n = 0;
     let mut turns = bytes.len();
     while turns > 0 {
-        let part = read_behind(bytes, n);
+        let part = read_behind(stdin, bytes, n);
         if part.failed {
             return Taken::Nothing;
         }

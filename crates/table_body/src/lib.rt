@@ -4,15 +4,17 @@
 // are told apart. Which bytes are read or written nothing can say; the line of a refusal is promised. Assumes nothing.
 #![tactic(auto)]
 
+mod digits;
 mod input;
 
 ghost use Rattle.std.specs.Prelude.{◌≡◌, length};
 ghost use Rattle.table_body.specs.Line.{Refuses};
 
-use console::write_line;
+use console::{write_all, write_line};
+use digits::decimal;
 use input::Taken;
-use libc::STDOUT_FILENO;
 use refusal::Told;
+use std::io::{Stdin, Stdout};
 use table_text::Made;
 use text::{Text, front};
 
@@ -38,7 +40,7 @@ fn refusal_line(told: Told) -> Text
     ensures { Refuses told.number told.place result }
 {
     let mut digits = [0u8; 20];
-    let n = io::decimal(told.place as u64, &mut digits);
+    let n = decimal(told.place, &mut digits);
     Text::new()
         .put_all(b"refused ")
         .put_number(told.number as usize)
@@ -47,55 +49,53 @@ fn refusal_line(told: Told) -> Text
 }
 
 // What was made, from the buffer's start; or the refusal.
-fn hand_over(made: Made, out: &[u8]) {
+fn hand_over(stdout: Stdout, made: Made, out: &[u8]) {
     match made {
-        Made::Bytes(n) => {
-            io::write_all(STDOUT_FILENO, front(out, n));
-        }
-        Made::Refused(_, _) => write_line(refusal_line(made.told())),
+        Made::Bytes(n) => write_all(stdout, front(out, n)),
+        Made::Refused(_, _) => write_line(stdout, refusal_line(made.told())),
     }
 }
 
-fn say(words: &[u8]) {
-    write_line(Text::new().put_all(words));
+fn say(stdout: Stdout, words: &[u8]) {
+    write_line(stdout, Text::new().put_all(words));
 }
 
-fn write_image(text: &[u8]) {
+fn write_image(stdout: Stdout, text: &[u8]) {
     if text.len() == TEXT {
-        say(b"too long");
+        say(stdout, b"too long");
         return;
     }
     let mut image = [0u8; IMAGE];
     let made = table_text::write(text, &mut image);
-    hand_over(made, &image);
+    hand_over(stdout, made, &image);
 }
 
-fn print_text(image: &[u8]) {
+fn print_text(stdout: Stdout, image: &[u8]) {
     let mut text = [0u8; PRINTED];
     let made = table_text::print(image, &mut text);
-    hand_over(made, &text);
+    hand_over(stdout, made, &text);
 }
 
 // The whole of `table_write`. Nothing can be promised of what it reads and writes: it ends, and is safe.
-pub fn write()
+pub fn write(stdin: Stdin, stdout: Stdout)
     ensures { result ≡ tt }
 {
     let mut bytes = text_room();
-    let taken = input::take(&mut bytes);
+    let taken = input::take(stdin, &mut bytes);
     match taken {
-        Taken::Bytes(n) => write_image(front(&bytes, n)),
-        Taken::Nothing => say(b"unreadable"),
+        Taken::Bytes(n) => write_image(stdout, front(&bytes, n)),
+        Taken::Nothing => say(stdout, b"unreadable"),
     }
 }
 
 // The whole of `table_print`, likewise.
-pub fn print()
+pub fn print(stdin: Stdin, stdout: Stdout)
     ensures { result ≡ tt }
 {
     let mut bytes = [0u8; IMAGE];
-    let taken = input::take(&mut bytes);
+    let taken = input::take(stdin, &mut bytes);
     match taken {
-        Taken::Bytes(n) => print_text(front(&bytes, n)),
-        Taken::Nothing => say(b"unreadable"),
+        Taken::Bytes(n) => print_text(stdout, front(&bytes, n)),
+        Taken::Nothing => say(stdout, b"unreadable"),
     }
 }

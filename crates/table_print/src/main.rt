@@ -2,6 +2,6 @@
 // Assumes nothing.
 #![tactic(auto)]
 
-fn main() {
-    table_body::print();
+fn main(rt: HostRuntime) {
+    table_body::print(rt.stdin(), rt.stdout());
 }

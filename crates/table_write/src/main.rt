@@ -2,6 +2,6 @@
 // image Z. Assumes nothing.
 #![tactic(auto)]
 
-fn main() {
-    table_body::write();
+fn main(rt: HostRuntime) {
+    table_body::write(rt.stdin(), rt.stdout());
 }
