@@ -80,6 +80,7 @@ fn release_at(at: Coords) -> Line
 }
 
 // What a line says, without its newline.
+#[tactic(auto, using(crate::proofs::Laws::line_parted))]
 pub fn read_line(line: &[u8]) -> Line
     ensures { says_of result ≡ says_of (line_of line.now) }
 {
