@@ -63,7 +63,7 @@ rows_whole pre (row ∷ rows) post at w e f =
     let long : length (pre ++ bytes_of row) ≡ at + 2 * w = simp (length-append, bytes_length) (omega (arith, h.0)) in
     let more : rows_from (pre ++ (bytes_of row ++ rest)) (at + 2 * w) (length rows) w ≡ rows =
     rw (← append_assoc pre (bytes_of row) rest) (rows_whole (pre ++ bytes_of row) rows post (at + 2 * w) w long h.1) in
-    rw (s, one, more)
+    ap (λ x. words_from (pre ++ x) at w ∷ rows_from (pre ++ x) (at + 2 * w) (length rows) w) s ∙ rw (one, more)
 
 pub rows_back : (pre : List ℕ) (rows : List (List ℕ)) (post : List ℕ) (at n w : ℕ) → length pre ≡ at → length rows ≡ n → wide w rows ≡ true
     → rows_from (pre ++ (bytes_of (flat rows) ++ post)) at n w ≡ rows

@@ -7,22 +7,16 @@ use native.Mathlib.Nat.{eq-or-lt_of_le}
 use native.Mathlib.Omega.{arith}
 use lib.ListN.{length, length-append, take, drop}
 use lib.Seq.{sets, take-length}
-use Rattle.bytes.specs.Bytes.{index_of, slice}
 use Rattle.number.specs.Number.{read_decimal}
 use Rattle.number.specs.declared.Number.TheVariants.{Value, Unread}
 use Rattle.table_text.specs.Lines.{parts, single, Row, Numbers, Unfit, before, read_words, row_of}
 use Rattle.table_text.specs.Write.{bytes_of}
-use Rattle.table_text.specs.Inside.{unspaced, ReadsLine}
+use Rattle.table_text.specs.Inside.{index_of, unspaced, ReadsLine}
 use Rattle.table_text.specs.declared.lines.Counted.TheVariants as counted
 use Rattle.table_text.proofs.Laid.{sets_append}
 use Rattle.table_text.proofs.Parts.{parts_cut, parts_none, index_free, index_within, index_cut, index_none, single_free, single_none, single_run}
 use Rattle.table_text.proofs.PlainText.{row_some}
 use Rattle.table_text.proofs.WordBytes.{bytes_append, bytes_length}
-
--- the first byte of a kind from a place on
-pub found_at : (d : ℕ) (l : List ℕ) (i end : ℕ) → end ≡ i + index_of d (slice i (length l) l) → end ≡ i + index_of d (drop i l)
-unfolding slice
-found_at d l i end e = e ∙ ap (λ x. i + index_of d (drop i x)) (take-length l)
 
 -- the words of some bytes
 abbrev pub words_in : List ℕ → Row

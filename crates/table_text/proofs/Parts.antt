@@ -8,10 +8,9 @@ use borrow.Author.Tests.{eq-eqb, ne_eqb, eqb-true, not-true}
 use lib.Dec.{eqb}
 use lib.ListN.{length, take, drop, get_or}
 use lib.Seq.{take-length}
-use Rattle.bytes.specs.Bytes.{index_after, index_of}
 use Rattle.lists.proofs.Laws.{every_head, every_append}
 use Rattle.lists.specs.Lists.{every}
-use Rattle.table_text.specs.Inside.{unspaced}
+use Rattle.table_text.specs.Inside.{index_of, unspaced}
 use Rattle.table_text.specs.Lines.{ahead, parts, starts_with, single}
 
 -- none of the bytes is d
@@ -63,31 +62,31 @@ module _ (d : ℕ) where
 
   -- the index of the first d: none is before it, it is within the bytes or is their number, there the bytes are cut
   pub index_free : (l : List ℕ) → free d (take (index_of d l) l) ≡ true
-  unfolding free every index_of index_after
+  unfolding free every index_of
   index_free [] = refl
   index_free (c ∷ cs) = go (eqb c d) refl (index_free cs)
     where
-      go : (t : Bool) → eqb c d ≡ t → free d (take (index_of d cs) cs) ≡ true → free d (take (index_after t (index_of d cs)) (c ∷ cs)) ≡ true
+      go : (t : Bool) → eqb c d ≡ t → free d (take (index_of d cs) cs) ≡ true → free d (take (cond t 0 (suc (index_of d cs))) (c ∷ cs)) ≡ true
       go true e f = refl
       go false e f = rw e f
 
   pub index_within : (l : List ℕ) → index_of d l ≤ length l
-  unfolding index_of index_after
+  unfolding index_of
   index_within [] = omega arith
   index_within (c ∷ cs) = go (eqb c d) (index_within cs)
     where
-      go : (t : Bool) → index_of d cs ≤ length cs → index_after t (index_of d cs) ≤ suc (length cs)
+      go : (t : Bool) → index_of d cs ≤ length cs → cond t 0 (suc (index_of d cs)) ≤ suc (length cs)
       go true h = omega arith
       go false h = omega arith
 
   pub index_cut : (l : List ℕ) → index_of d l < length l → l ≡ take (index_of d l) l ++ d ∷ drop (suc (index_of d l)) l
-  unfolding index_of index_after
+  unfolding index_of
   index_cut [] h = absurd (omega arith)
   index_cut (c ∷ cs) h = go (eqb c d) refl (index_cut cs) h
     where
       go : (t : Bool) → eqb c d ≡ t → (index_of d cs < length cs → cs ≡ take (index_of d cs) cs ++ d ∷ drop (suc (index_of d cs)) cs)
-          → index_after t (index_of d cs) < suc (length cs)
-          → c ∷ cs ≡ take (index_after t (index_of d cs)) (c ∷ cs) ++ d ∷ drop (suc (index_after t (index_of d cs))) (c ∷ cs)
+          → cond t 0 (suc (index_of d cs)) < suc (length cs)
+          → c ∷ cs ≡ take (cond t 0 (suc (index_of d cs))) (c ∷ cs) ++ d ∷ drop (suc (cond t 0 (suc (index_of d cs)))) (c ∷ cs)
       go true e f k = rw (eqb-true c d e)
       go false e f k = ap (λ (x : List ℕ). c ∷ x) (f (omega arith))
 

@@ -11,7 +11,6 @@ use lib.ListN.{length, length-append}
 use Rattle.lists.specs.Lists.{every}
 use Rattle.lists.proofs.Laws.{both_true, every_head}
 use Rattle.image.specs.declared.words.Shape.{Shape}
-use Rattle.refusal.specs.declared.Refusal.TheVariants as refusal
 use Rattle.table_text.specs.Write.{asks, lines_asked}
 use Rattle.table_text.proofs.Asked.{asks_row, asks_record, asks_entry}
 use Rattle.table_text.proofs.Rows.{flat, shaped}

@@ -7,7 +7,6 @@ use native.Mathlib.Omega.{arith}
 use borrow.Author.Tests.{ne_eqb, le-ltb, lt-ltb}
 use lib.ListN.{length, length-append, length-take, take, drop, get_or}
 use lib.Seq.{sets, sets-eq}
-use Rattle.bytes.specs.Bytes.{index_of}
 use Rattle.image.specs.Words.{words_from}
 use Rattle.image.specs.declared.words.Shape.{Shape}
 use Rattle.refusal.specs.Verdict.{rule}
@@ -15,7 +14,8 @@ use Rattle.refusal.specs.declared.Refusal.TheVariants.{Text}
 use Rattle.refusal.specs.declared.Verdict.TheVariants.{Fine, Refused}
 use Rattle.table_text.specs.Lines.{parts, Row, Numbers, Unfit, row_of, numbers_in, numbers_of}
 use Rattle.table_text.specs.Write.{shape_from, asks, lines_asked, fits_at, lines_fault, counts_in, text_fault, bytes_of}
-use Rattle.table_text.specs.Inside.{counted_of, ReadsLines, ReadsText, judged_of}
+use Rattle.table_text.specs.Inside.{index_of, counted_of, ReadsLine, ReadsLines, ReadsText, judged_of}
+use Rattle.table_text.specs.declared.lines.Counted.{Counted}
 use Rattle.table_text.specs.declared.lines.Counted.TheVariants as counted
 use Rattle.table_text.specs.declared.read.Judged.TheVariants as judged
 use Rattle.table_text.specs.declared.read.Judged.{Judged}
@@ -34,6 +34,23 @@ counted_numbers Unfit n e = (cc, cc)
 pub counted_unfit : (row : Row) → counted.Unfit ≡ counted_of row → row ≡ Unfit
 counted_unfit (Numbers ns) e = cc
 counted_unfit Unfit e = refl
+
+-- of the first line, which is told by its length: how many numbers it has; there are no more of them than bytes, and they are laid
+-- as words from word k on; or it has a word that is no number
+module _ (T : List ℕ) (m : ℕ) (x : Counted) (e : m ≡ index_of 10 T) where
+  pub line_numbers : (n : ℕ) → x ≡ counted_of (row_of (take m T)) → x ≡ counted.Numbers n
+      → counted.Numbers n ≡ counted_of (row_of (take (index_of 10 T) T))
+  line_numbers n r is = sym is ∙ r ∙ ap (λ j. counted_of (row_of (take j T))) e
+
+  pub line_laid : (n k : ℕ) (was image : List ℕ) → ReadsLine (take m T) k was x image → x ≡ counted.Numbers n
+      → (n ≤ index_of 10 T) × (image ≡ sets was (2 * k) (bytes_of (numbers_in (row_of (take (index_of 10 T) T)))))
+  line_laid n k was image r is =
+      let p = counted_numbers _ _ (line_numbers n r.0 is) in
+      let told = r.1 _ (ap (λ j. row_of (take j T)) e ∙ p.0) in
+      (omega (arith, p.1, simp length-take at told.0, e), told.1)
+
+  pub line_unfit : x ≡ counted_of (row_of (take m T)) → x ≡ counted.Unfit → row_of (take (index_of 10 T) T) ≡ Unfit
+  line_unfit r is = ap (λ j. row_of (take j T)) (sym e) ∙ counted_unfit _ (sym is ∙ r)
 
 -- a line that has so many numbers fits its place or not, and one that has a word that is no number does not
 pub fits_numbers : (s : Shape) (i : ℕ) (row : Row) → row ≡ Numbers (numbers_in row) → fits_at s i row ≡ asks s i (length (numbers_in row))

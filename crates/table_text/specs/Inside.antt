@@ -1,5 +1,5 @@
 -- What private functions ask and promise, and no public promise speaks of. Assumes nothing.
-use Rattle.std.specs.Prelude.{ℕ, ◌+◌, ◌*◌, ◌<◌, ◌≤◌, cond, List, [], ◌∷◌, ◌++◌, ◌≡◌, eqb, leb, length, get_or, drop}
+use Rattle.std.specs.Prelude.{ℕ, suc, ◌+◌, ◌*◌, ◌<◌, ◌≤◌, cond, List, [], ◌∷◌, ◌++◌, ◌≡◌, eqb, leb, length, get_or, drop}
 use Rattle.std.proofs.lemmas.List.Edits.{sets}
 use Rattle.image.specs.Check.{fault_of}
 use Rattle.image.specs.Sound.{Framed}
@@ -21,6 +21,11 @@ use Rattle.table_text.specs.declared.lines.Counted.{Counted}
 use Rattle.table_text.specs.declared.lines.Counted.TheVariants as counted
 use Rattle.table_text.specs.declared.read.Judged.{Judged}
 use Rattle.table_text.specs.declared.read.Judged.TheVariants as judged
+
+-- the index of the first byte d; where there is none, the list's length
+unfoldable pub index_of : ℕ → List ℕ → ℕ
+index_of d [] = 0
+index_of d (c ∷ cs) = cond (eqb c d) 0 (suc (index_of d cs))
 
 -- bytes without the spaces in front
 unfoldable pub unspaced : List ℕ → List ℕ

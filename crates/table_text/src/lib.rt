@@ -8,6 +8,7 @@
 mod lay;
 mod lines;
 mod read;
+mod scan;
 
 ghost use Rattle.std.specs.Prelude.{◌≡◌, ◌+◌, ◌*◌, length};
 ghost use Rattle.table_text.specs.Made.{told_of, Replies};
@@ -67,7 +68,8 @@ fn hand_over(image: &[u8], out: &mut [u8]) -> Made
     if out.len() < image.len() {
         return Made::Refused(Refusal::Room, 0);
     }
-    Made::Bytes(bytes::copy(image, out))
+    out[..image.len()].copy_from_slice(image);
+    Made::Bytes(image.len())
 }
 
 // An image that is built gets its version and its offsets. How long it is.

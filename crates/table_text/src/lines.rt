@@ -5,7 +5,7 @@ ghost use Rattle.std.proofs.lemmas.List.Edits.{sets};
 ghost use Rattle.table_text.specs.Write.{bytes_of};
 ghost use Rattle.table_text.specs.Inside.{PassesSpaces, ReadsLine};
 
-use bytes::scan::find;
+use super::scan::find;
 use number::{Number, decimal};
 
 // The largest image whose header keeps its rules: 16 + 2 * 8 * 8 * 16 + 8 * 256 + 2 * 1024 bytes.
@@ -58,7 +58,7 @@ pub(crate) fn read_line(line: &[u8], image: &mut [u8; LARGEST], k: usize) -> Cou
     let mut i = 0;
     let mut n = 0;
     while i < line.len() {
-        let end = find(line, i, line.len(), b' ');
+        let end = find(line, i, b' ');
         let Number::Value(value) = decimal(&line[i..end]) else {
             return Counted::Unfit;
         };

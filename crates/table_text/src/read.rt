@@ -7,7 +7,7 @@ ghost use Rattle.table_text.specs.Write.{shape_from, asks, lines_asked};
 ghost use Rattle.table_text.specs.Inside.{Words, ReadsLines, ReadsText};
 
 use super::lines::{Counted, LARGEST, read_line};
-use bytes::scan::find;
+use super::scan::find;
 use image::{Shape, word_or_zero};
 
 // The counts of a text that has the lines that they ask for; or the first line that does not fit, is missing or is left over.
@@ -75,7 +75,7 @@ fn read_lines(text: &[u8], image: &mut [u8; LARGEST], s: Shape, from: usize) -> 
     let mut line = 2;
     let mut k = 8;
     while at < text.len() {
-        let end = find(text, at, text.len(), b'\n');
+        let end = find(text, at, b'\n');
         if end == text.len() {
             return Judged::Line(line);
         }
@@ -100,7 +100,7 @@ pub(crate) fn read_text(text: &[u8], image: &mut [u8; LARGEST]) -> Judged
     requires { length image.old ≡ 6160 }
     ensures { ReadsText text.now image.old result image.new }
 {
-    let end = find(text, 0, text.len(), b'\n');
+    let end = find(text, 0, b'\n');
     if end == text.len() {
         return Judged::Line(1);
     }
