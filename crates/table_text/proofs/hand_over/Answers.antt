@@ -29,4 +29,5 @@ returns c =
     let a = c.args in
     let img = a.image.now in
     let fine = (fault_fine img _ (sym (said_one _ _ c.check-checked.ensures) ∙ c.in-Accepted.is)).0 in
-    reply_laid img img a.out.now fine _ _ c.if-out-image.false refl (ap (λ l. l ++ drop (length img) a.out.now) c.copy_from_slice.ensures.after)
+    let copied = ap (λ l. l ++ drop (length img) a.out.now) c.copy_from_slice.ensures.after in
+    reply_laid img img a.out.now fine _ _ c.if-out-image.false refl copied

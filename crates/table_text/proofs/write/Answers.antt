@@ -43,21 +43,24 @@ put_header-size-requires c =
 whole : (text : List ℕ) (s : Shape) (size : ℕ) (image after : List ℕ) → text_fault text ≡ Fine → counts_good 1 (counts_in text) ≡ true
     → s ≡ counts_in text → size ≡ s.list_at + 2 * s.entries → length image ≡ 6160 → after ≡ headed_of s image → size ≤ length after
 whole text s size image after fine good is e long h =
-    omega (arith, e ∙ ap (λ s. s.list_at + 2 * s.entries) is, (few text fine good).whole, ap length h ∙ headed_long s image ∙ long)
+    let size = e ∙ ap (λ x. x.list_at + 2 * x.entries) is in
+    omega (arith, size, (few text fine good).whole, ap length h ∙ headed_long s image ∙ long)
 
 pub slice_bounds-image-end : goal.slice_bounds-image-end
 slice_bounds-image-end c =
     let f = judged_fits _ _ (sym c.in-Fits.is ∙ c.read_text-judged.ensures.0) in
     let good = ap (counts_good 1) (sym f.1) ∙ sym c.counts_good.ensures ∙ c.if-not-counts_good.false in
     let long = ap length (c.read_text-judged.ensures.1 f.0) ∙ simp length-sets (length-replicate {A = ℕ} 6160 0) in
-    whole c.args.text.now _ _ c.read_text-judged.new.image _ f.0 good f.1 c.put_header-size.ensures.0 long c.put_header-size.ensures.1
+    let put = c.put_header-size.ensures in
+    whole c.args.text.now _ _ c.read_text-judged.new.image _ f.0 good f.1 put.0 long put.1
 
 pub slice_bounds-hand_over-end : goal.slice_bounds-hand_over-end
 slice_bounds-hand_over-end c =
     let f = judged_fits _ _ (sym c.in-Fits.is ∙ c.read_text-judged.ensures.0) in
     let good = ap (counts_good 1) (sym f.1) ∙ sym c.counts_good.ensures ∙ c.if-not-counts_good.false in
     let long = ap length (c.read_text-judged.ensures.1 f.0) ∙ simp length-sets (length-replicate {A = ℕ} 6160 0) in
-    let fits = whole c.args.text.now _ _ c.read_text-judged.new.image _ f.0 good f.1 c.put_header-size.ensures.0 long c.put_header-size.ensures.1 in
+    let put = c.put_header-size.ensures in
+    let fits = whole c.args.text.now _ _ c.read_text-judged.new.image _ f.0 good f.1 put.0 long put.1 in
     sym (length-take-le _ c.put_header-size.new.image fits)
 
 pub returns-else-not-counts_good : goal.returns-else-not-counts_good
@@ -68,6 +71,7 @@ returns-else-not-counts_good c =
     let size = c.put_header-size.ensures.0 ∙ ap (λ s. s.list_at + 2 * s.entries) f.1 in
     let image : take c.put_header-size.result c.put_header-size.new.image ≡ image_of a.text.now
     = rw (size, c.put_header-size.ensures.1, f.1, c.read_text-judged.ensures.1 f.0) (image_built _ f.0 good) in
-    let handed : Replies (checked_reply (take c.put_header-size.result c.put_header-size.new.image) a.out.now) c.hand_over.result c.hand_over.new.out
+    let lent = take c.put_header-size.result c.put_header-size.new.image in
+    let handed : Replies (checked_reply lent a.out.now) c.hand_over.result c.hand_over.new.out
     = c.hand_over.ensures in
     rw (write_image a.text.now a.out.now f.0 good) (rw image at handed)

@@ -10,8 +10,9 @@ use Rattle.table_text.proofs.lay.lay_line.Given as goal
 
 abbrev pub invariant-loop-i : goal.invariant-loop-i
 invariant-loop-i l =
+    let whole = marked (words_from l.image l.from l.width) in
     (l.i ≤ l.width) × (l.to ≤ l.at + 6 * l.i) × (length l.out ≡ length l.initial.out)
-    × Rest (marked (words_from l.image (l.from + 2 * l.i) (l.width - l.i))) l.to l.out (marked (words_from l.image l.from l.width)) l.at l.initial.out
+    × Rest (marked (words_from l.image (l.from + 2 * l.i) (l.width - l.i))) l.to l.out whole l.at l.initial.out
 
 abbrev pub decreases-loop-i : goal.decreases-loop-i
 decreases-loop-i l = l.width - l.i

@@ -23,12 +23,13 @@ loop-left-preserved c =
     let img = a.image.now in
     let inv = c.loop-left.invariant in
     let in-turn : 0 < c.loop-left.left = c.loop-left-test.true in
-    let said : Lays (line_of (words_from img c.loop-left.place a.width)) c.loop-left.to c.loop-left.out c.lay_line-to.result c.lay_line-to.new.out
+    let line = line_of (words_from img c.loop-left.place a.width) in
+    let said : Lays line c.loop-left.to c.loop-left.out c.lay_line-to.result c.lay_line-to.new.out
     = c.lay_line-to.ensures in (
       omega (arith, in-turn, inv.0),
       omega (arith, in-turn, inv.1, said.ends, line_short img c.loop-left.place a.width c.requires.0, c.requires.1),
       omega (arith, in-turn, inv.2, c.requires.1),
-      ap length said.holds ∙ length-sets c.loop-left.out c.loop-left.to (line_of (words_from img c.loop-left.place a.width)) ∙ inv.3,
+      ap length said.holds ∙ length-sets c.loop-left.out c.loop-left.to line ∙ inv.3,
       rest_on (rw (lines_on img c.loop-left.place c.loop-left.left a.width in-turn) at inv.4) said,
     )
 

@@ -9,8 +9,12 @@ use Rattle.table_text.proofs.lay.lay_lines.Given as goal
 
 abbrev pub invariant-loop-left : goal.invariant-loop-left
 invariant-loop-left l =
-    (l.left ≤ l.count) × (l.to + 96 * l.left ≤ l.at + 96 * l.count) × (l.place + 32 * l.left ≤ l.from + 32 * l.count) × (length l.out ≡ length l.initial.out)
-    × Rest (text_from (rows_from l.image l.place l.left l.width)) l.to l.out (text_from (rows_from l.image l.from l.count l.width)) l.at l.initial.out
+    let whole = text_from (rows_from l.image l.from l.count l.width) in
+    (l.left ≤ l.count)
+    × (l.to + 96 * l.left ≤ l.at + 96 * l.count)
+    × (l.place + 32 * l.left ≤ l.from + 32 * l.count)
+    × (length l.out ≡ length l.initial.out)
+    × Rest (text_from (rows_from l.image l.place l.left l.width)) l.to l.out whole l.at l.initial.out
 
 abbrev pub decreases-loop-left : goal.decreases-loop-left
 decreases-loop-left l = l.left

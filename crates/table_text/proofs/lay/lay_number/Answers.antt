@@ -6,7 +6,8 @@ use Rattle.text.specs.Text.{decimal_of}
 use Rattle.table_text.proofs.Laid.{lays_then, lays_two}
 use Rattle.table_text.proofs.Decimal.{place_short}
 use Rattle.table_text.proofs.lay.lay_number.Goals as goal
-use Rattle.table_text.proofs.lay.lay_number.Goals.{After-lay_place-hundreds, After-lay_place-ones, After-lay_place-tens, After-lay_place-thousands}
+use Rattle.table_text.proofs.lay.lay_number.Goals.{After-lay_place-hundreds, After-lay_place-ones}
+use Rattle.table_text.proofs.lay.lay_number.Goals.{After-lay_place-tens, After-lay_place-thousands}
 
 -- how far each place reaches
 thousands : (c : After-lay_place-thousands) → c.lay_place-thousands.result < 900001
@@ -41,5 +42,6 @@ overflow_add-result c = omega (arith, ones (goal.at.overflow_add-result c).After
 pub returns : goal.returns
 unfolding decimal_of
 returns c =
-    let places = lays_then (lays_then (lays_then c.lay_place-thousands.ensures c.lay_place-hundreds.ensures) c.lay_place-tens.ensures) c.lay_place-ones.ensures in
+    let two = lays_then c.lay_place-thousands.ensures c.lay_place-hundreds.ensures in
+    let places = lays_then (lays_then two c.lay_place-tens.ensures) c.lay_place-ones.ensures in
     lays_two _ _ places c.put.ensures c.put-2.ensures

@@ -34,13 +34,15 @@ lay_lines-records_at-requires c =
 pub lay_lines-list_at-requires : goal.lay_lines-list_at-requires
 lay_lines-list_at-requires c =
     let k = few c.args.image.now c.args.s c.requires in
-    let cells = cells_end c.args.image.now c.args.s k (first_end c.args.image.now c.lay_line-rows_at.ensures) c.lay_lines-records_at.ensures in
+    let first = first_end c.args.image.now c.lay_line-rows_at.ensures in
+    let cells = cells_end c.args.image.now c.args.s k first c.lay_lines-records_at.ensures in
     (omega arith, omega arith, omega (arith, k.records), omega (arith, k.records_at), omega (arith, cells))
 
 pub lay_lines-requires : goal.lay_lines-requires
 lay_lines-requires c =
     let k = few c.args.image.now c.args.s c.requires in
-    let cells = cells_end c.args.image.now c.args.s k (first_end c.args.image.now c.lay_line-rows_at.ensures) c.lay_lines-records_at.ensures in
+    let first = first_end c.args.image.now c.lay_line-rows_at.ensures in
+    let cells = cells_end c.args.image.now c.args.s k first c.lay_lines-records_at.ensures in
     let records = records_end c.args.image.now c.args.s k cells c.lay_lines-list_at.ensures in
     (omega arith, omega arith, k.entries, omega (arith, k.list_at), omega (arith, records))
 

@@ -14,13 +14,15 @@ loop-i-init c = (omega arith, c.requires, refl)
 pub returns-then-line-i-ne32 : goal.returns-then-line-i-ne32
 returns-then-line-i-ne32 c =
     let line = c.args.line.now in
-    (sym (space_past line c.loop-i.i (search rules) c.if-line-i-ne32.true) ∙ c.loop-i.invariant.2, c.loop-i.invariant.0, c.loop-i.invariant.1)
+    let inv = c.loop-i.invariant in
+    (sym (space_past line c.loop-i.i (search rules) c.if-line-i-ne32.true) ∙ inv.2, inv.0, inv.1)
 
 pub loop-i-preserved : goal.loop-i-preserved
 loop-i-preserved c =
     let line = c.args.line.now in
     let here : c.loop-i.i < length line = search rules in
-    (omega (arith, c.loop-i.invariant.0), omega (arith, here), sym (space_here line c.loop-i.i here c.if-line-i-ne32.false) ∙ c.loop-i.invariant.2)
+    let inv = c.loop-i.invariant in
+    (omega (arith, inv.0), omega (arith, here), sym (space_here line c.loop-i.i here c.if-line-i-ne32.false) ∙ inv.2)
 
 pub returns : goal.returns
 returns c =

@@ -23,12 +23,14 @@ returns-then-line-records_end c =
 pub returns-then-line-records_end-2 : goal.returns-then-line-records_end-2
 returns-then-line-records_end-2 c =
     let a = c.args in
-    sym (asks_entry a.s a.i a.n c.if-line-le1.false c.if-line-rows_end.false c.if-line-records_end.false ∙ rw (le-leb a.i (lines_asked a.s) (omega (arith, c.if-line-records_end-2.true))))
+    let entry = asks_entry a.s a.i a.n c.if-line-le1.false c.if-line-rows_end.false c.if-line-records_end.false in
+    sym (entry ∙ rw (le-leb a.i (lines_asked a.s) (omega (arith, c.if-line-records_end-2.true))))
 
 pub returns-else-line-records_end-2 : goal.returns-else-line-records_end-2
 returns-else-line-records_end-2 c =
     let a = c.args in
-    sym (asks_entry a.s a.i a.n c.if-line-le1.false c.if-line-rows_end.false c.if-line-records_end.false ∙ rw (lt-leb a.i (lines_asked a.s) (omega (arith, c.if-line-records_end-2.false))))
+    let entry = asks_entry a.s a.i a.n c.if-line-le1.false c.if-line-rows_end.false c.if-line-records_end.false in
+    sym (entry ∙ rw (lt-leb a.i (lines_asked a.s) (omega (arith, c.if-line-records_end-2.false))))
 
 pub overflow_mul-rows_end : goal.overflow_mul-rows_end
 overflow_mul-rows_end c = omega (arith, rows_fit c.args.s c.requires)

@@ -35,7 +35,8 @@ returns-in_default c =
     let i = c.loop-at.line in
     let T = drop c.loop-at.at c.args.text.now in
     let long : c.find-end.result - c.loop-at.at ≡ index_of 10 T = omega (arith, c.find-end.ensures.0) in
-    let closed : index_of 10 T < length T = simp length-drop (omega (arith, c.find-end.ensures.0, c.find-end.ensures.1, c.if-end-text.false)) in
+    let found = c.find-end.ensures in
+    let closed : index_of 10 T < length T = simp length-drop (omega (arith, found.0, found.1, c.if-end-text.false)) in
     let unfit = line_unfit T _ _ long c.read_line.ensures.0 c.in_default.is in
     lines_fault_lem c.loop-at.invariant.4 c.read_line.new.image (fault_line s i T closed (fits_unfit s i _ unfit))
 
@@ -45,7 +46,8 @@ returns-then-not-is_asked c =
     let i = c.loop-at.line in
     let T = drop c.loop-at.at c.args.text.now in
     let long : c.find-end.result - c.loop-at.at ≡ index_of 10 T = omega (arith, c.find-end.ensures.0) in
-    let closed : index_of 10 T < length T = simp length-drop (omega (arith, c.find-end.ensures.0, c.find-end.ensures.1, c.if-end-text.false)) in
+    let found = c.find-end.ensures in
+    let closed : index_of 10 T < length T = simp length-drop (omega (arith, found.0, found.1, c.if-end-text.false)) in
     let p = counted_numbers _ _ (line_numbers T _ _ long c.in-Numbers.n c.read_line.ensures.0 c.in-Numbers.is) in
     let no = fits_numbers s i _ p.0 ∙ ap (asks s i) p.1 ∙ sym c.is_asked.ensures ∙ c.if-not-is_asked.true in
     lines_fault_lem c.loop-at.invariant.4 c.read_line.new.image (fault_line s i T closed no)

@@ -37,8 +37,8 @@ returns-then-n-ne5 c =
     let n = c.in-Numbers.n in
     let end : c.find-end.result ≡ index_of 10 text = omega (arith, c.find-end.ensures.0) in
     let closed : index_of 10 text < length text = omega (arith, end, c.find-end.ensures.1, c.if-end-text.false) in
-    let p = counted_numbers _ n (line_numbers text _ c.read_line.result end n c.read_line.ensures.0 c.in-Numbers.is) in
     let asked = asks_first (counts_in text) 1 n (omega arith) ∙ ne_eqb n 5 c.if-n-ne5.true in
+    let p = counted_numbers _ _ (line_numbers text _ _ end n c.read_line.ensures.0 c.in-Numbers.is) in
     let no = fits_numbers (counts_in text) 1 _ p.0 ∙ ap (asks (counts_in text) 1) p.1 ∙ asked in
     text_fault_lem text c.args.image.now 1 c.read_line.new.image (text_line text closed no)
 
@@ -69,6 +69,7 @@ returns c =
     ∙ ap shape_from (five_words a.image.now five c.requires many)
     ∙ sym (counts_are text closed) in
     let next : c.find-end.result + 1 ≡ suc (index_of 10 text) = omega (arith, end) in
-    let reads : ReadsLines (drop (c.find-end.result + 1) text) c.shape_in-s.result c.read_line.new.image c.read_lines.result c.read_lines.new.image
+    let left = drop (c.find-end.result + 1) text in
+    let reads : ReadsLines left c.shape_in-s.result c.read_line.new.image c.read_lines.result c.read_lines.new.image
     = c.read_lines.ensures in
     text_read text a.image.now _ _ _ closed p.0 many laid (rw (next, counts) at reads)

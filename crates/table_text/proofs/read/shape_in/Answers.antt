@@ -22,7 +22,12 @@ rows c =
 pub returns : goal.returns
 unfolding shape_from words_from
 returns c =
-    (rw (c.word_or_zero-layers.ensures, c.word_or_zero-rows.ensures, c.word_or_zero-columns.ensures, c.word_or_zero-records.ensures, c.word_or_zero-entries.ensures), record { layers = omega arith; rows = omega arith; columns = omega arith; records = omega arith; entries = omega arith })
+    let layers = c.word_or_zero-layers.ensures in
+    let rows = c.word_or_zero-rows.ensures in
+    let columns = c.word_or_zero-columns.ensures in (
+      rw (layers, rows, columns, c.word_or_zero-records.ensures, c.word_or_zero-entries.ensures),
+      record { layers = omega arith; rows = omega arith; columns = omega arith; records = omega arith; entries = omega arith },
+    )
 
 pub overflow_mul-records_at : goal.overflow_mul-records_at
 overflow_mul-records_at c = omega (arith, rows (goal.at.overflow_mul-records_at c).After-word_or_zero-entries)

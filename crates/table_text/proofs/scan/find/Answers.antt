@@ -33,7 +33,8 @@ index_step d x xs =
     let e : suc (index_of d xs) ≡ 1 + index_of d xs = omega arith in
     ap (cond (eqb x d) 0) e
 
-answers : (d : ℕ) (l m : List ℕ) (r : Option ℕ) → l ≡ m → r ≡ answer l (position_or_len (λ b. eqb b d) l) → r ≡ answer m (index_of d m)
+answers : (d : ℕ) (l m : List ℕ) (r : Option ℕ) → l ≡ m → r ≡ answer l (position_or_len (λ b. eqb b d) l)
+    → r ≡ answer m (index_of d m)
 unfolding index_of
 answers d l m r e h =
     h ∙ ap (λ x. answer x (position_or_len (λ b. eqb b d) x)) e
@@ -61,7 +62,8 @@ returns-in-Some c =
     let l = c.args.bytes.now in
     let rest = drop c.args.from l in
     let items = YieldsList-from_slice _ c.iter.ensures.rest in
-    let h = position_from_yields_List (λ b. eqb b c.args.byte) _ _ c.position.result c.position.ensures.ran items (λ x b q k. search (rules, tests)) in
+    let run = c.position.ensures.ran in
+    let h = position_from_yields_List (λ b. eqb b c.args.byte) _ _ c.position.result run items (λ x b q k. search (rules, tests)) in
     let first = answers c.args.byte _ rest c.position.result (whole l c.args.from) h in
     let is : c.in-Some.n ≡ index_of c.args.byte rest = found rest _ _ (sym first ∙ c.in-Some.is) in
     (ap (λ n. c.args.from + n) is, omega (arith, is, index_within c.args.byte rest, length-drop c.args.from l))
@@ -72,7 +74,8 @@ returns-in-None c =
     let l = c.args.bytes.now in
     let rest = drop c.args.from l in
     let items = YieldsList-from_slice _ c.iter.ensures.rest in
-    let h = position_from_yields_List (λ b. eqb b c.args.byte) _ _ c.position.result c.position.ensures.ran items (λ x b q k. search (rules, tests)) in
+    let run = c.position.ensures.ran in
+    let h = position_from_yields_List (λ b. eqb b c.args.byte) _ _ c.position.result run items (λ x b q k. search (rules, tests)) in
     let first = answers c.args.byte _ rest c.position.result (whole l c.args.from) h in
     let none = missing rest (index_of c.args.byte rest) (sym first ∙ c.in-None.is) in
     (omega (arith, none, index_within c.args.byte rest, length-drop c.args.from l), omega arith)
