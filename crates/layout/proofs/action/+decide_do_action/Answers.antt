@@ -45,7 +45,7 @@ neither Hold = refl
 -- a hold-tap that a queued release decides at once
 begins-now : (way : Way) (h p : Action) (n : ℕ) (c : Coord) (f : Found) (l w : Model)
     → marked (Begun c) (decided way h p n c f l)
-      ≡ begins (AtOnce way) c w (do_action p n c 0 f (with_waiting Idle l)) (do_action h n c 0 f (with_waiting Idle l))
+    ≡ begins (AtOnce way) c w (do_action p n c 0 f (with_waiting Idle l)) (do_action h n c 0 f (with_waiting Idle l))
 unfolding decided
 begins-now Tap h p n c f l w = refl
 begins-now Hold h p n c f l w = refl
@@ -54,7 +54,7 @@ begins-now Hold h p n c f l w = refl
 settled : (t : ℕ) (c : decide-After-settle-quiet t)
     → let a = c.args in
     Effected a.image.now a.setting.coord a.effect c.settle-quiet.result a.added.now a.added.now
-        (λ l. marked (Decided a.setting.coord a.way) (still (with_waiting Idle l)))
+    (λ l. marked (Decided a.setting.coord a.way) (still (with_waiting Idle l)))
 settled t c = c.settle-quiet.ensures c.args.image.now c.args.setting.coord c.args.added.now c.requires.1
 
 pub decide-returns-in_default : goal.decide-returns-in_default

@@ -21,8 +21,8 @@ invariant-do_action-loop-left l =
     (l.at + l.left ≡ l.first + l.count)
     × (every (λ k. ltb k l.n) (entries l.image l.at l.left) ≡ true)
     × Left l.image s.coord l.initial.out l.out l.initial.added l.added
-        (do_actions (named (tree l.image) (entries l.image l.first l.count)) s.layers s.coord s.delay s.found)
-        (do_actions (named (tree l.image) (entries l.image l.at l.left)) s.layers s.coord s.delay s.found)
+    (do_actions (named (tree l.image) (entries l.image l.first l.count)) s.layers s.coord s.delay s.found)
+    (do_actions (named (tree l.image) (entries l.image l.at l.left)) s.layers s.coord s.delay s.found)
 
 abbrev pub decreases-do_action-loop-left : goal.decreases-do_action-loop-left
 decreases-do_action-loop-left l = l.left

@@ -1,17 +1,12 @@
 -- `layout::action::push_codes` meets its contract. Assumes nothing.
-use Prim.Native.Nat.{◌+◌}
-use mathlib.Core.Bool.{true}
 use mathlib.Core.Path.{◌≡◌, sym, ap, ◌∙◌}
 use native.Mathlib.Omega.{arith}
-use borrow.Author.Rules.{rules}
 use Rattle.codes.specs.Codes.{legal}
-use Rattle.event.specs.declared.Coord.{Coord}
 use Rattle.image.specs.Words.{entries}
-use Rattle.lists.specs.Lists.{every}
 use Rattle.layout.specs.Actions.{push_codes}
 use Rattle.image.proofs.Said.{entry_one}
 use Rattle.image.proofs.Accepted.{entry_is, entry_not, entries_step, all_head, all_tail}
-use Rattle.layout.proofs.Effects.{Left, left_start, left_step, left_end}
+use Rattle.layout.proofs.Effects.{left_start, left_step, left_end}
 use Rattle.layout.proofs.action.push_codes.Goals as goal
 
 pub loop-left-init : goal.loop-left-init

@@ -1,5 +1,4 @@
 -- `layout::action::settle` meets its contract. Assumes nothing.
-use borrow.Author.Rules.{rules}
 use Rattle.layout.proofs.Effects.{settled}
 use Rattle.layout.proofs.action.settle.Goals as goal
 

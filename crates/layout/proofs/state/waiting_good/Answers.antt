@@ -1,6 +1,5 @@
 -- `layout::state::waiting_good` meets its contract. Assumes nothing.
 use mathlib.Core.Path.{refl, sym}
-use borrow.Author.Rules.{rules}
 use Rattle.image.specs.Tree.{tree, meaning}
 use Rattle.image.proofs.Accepted.{tells}
 use Rattle.layout.proofs.States.{no_wait}

@@ -1,6 +1,5 @@
 -- `layout::steps::overflow` meets its contract. Assumes nothing.
 use mathlib.Core.Path.{refl}
-use borrow.Author.Rules.{rules}
 use Rattle.image.specs.Table.{table_of}
 use Rattle.layout.specs.Steps.{act, overflow}
 use Rattle.layout.specs.Packed.{list_in}

@@ -2,7 +2,6 @@
 use Prim.Native.Nat.{ℕ}
 use mathlib.Core.List.{List}
 use mathlib.Core.Path.{◌≡◌, refl, ap, ◌∙◌}
-use borrow.Author.Rules.{rules}
 use Rattle.layout.proofs.Presses.{press_outside, press_trans, press_own}
 use Rattle.layout.specs.Packed.{model_of}
 use Rattle.image.specs.Record.{cell_at}

@@ -1,6 +1,5 @@
 -- `layout::steps::tap_released` meets its contract. Assumes nothing.
 use mathlib.Core.Path.{refl, sym, ap, ◌∙◌}
-use borrow.Author.Rules.{rules}
 use borrow.Author.Tests.{not-true, not-false}
 use Rattle.image.specs.Table.{table_of}
 use Rattle.layout.specs.Steps.{releases}

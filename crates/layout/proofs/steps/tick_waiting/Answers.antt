@@ -1,6 +1,5 @@
 -- `layout::steps::tick_waiting` meets its contract. Assumes nothing.
 use mathlib.Core.Path.{refl}
-use borrow.Author.Rules.{rules}
 use Rattle.layout.specs.declared.notes.Way.TheVariants.{Hold}
 use Rattle.layout.proofs.Effects.{effect_starts, effect_ends}
 use Rattle.layout.proofs.Moves.{becomes_so, did_waiting, did_up}

@@ -1,6 +1,5 @@
 -- `layout::steps::unstack` meets its contract. Assumes nothing.
 use mathlib.Core.Path.{refl, sym, ap, ◌∙◌}
-use borrow.Author.Rules.{rules}
 use Rattle.image.specs.Table.{tree_in}
 use Rattle.image.specs.declared.record.Cell.TheVariants.{Record, Outside}
 use Rattle.layout.specs.Actions.{do_action}

@@ -4,7 +4,7 @@ use mathlib.Core.Path.{◌≡◌, sym, ap, ◌∙◌}
 use native.Mathlib.Omega.{arith}
 use borrow.Author.Rules.{rules}
 use borrow.Author.Tests.{not-true}
-use lib.ListN.{length, length-map, take, drop, get_or, length-drop, get_or-map}
+use lib.ListN.{length, take, drop, get_or, length-drop, get_or-map}
 use lib.Seq.{get_or-take}
 use Rattle.image.specs.Table.{table_of}
 use Rattle.layout.specs.Model.{Queued, still}

@@ -1,7 +1,7 @@
 -- `layout::layout::Layout::keycodes` meets its contract. Assumes nothing.
-use mathlib.Core.Path.{◌≡◌, refl, sym, ap, ◌∙◌}
+use mathlib.Core.Path.{◌≡◌, refl, ap, ◌∙◌}
 use borrow.Author.Rules.{rules}
-use lib.ListN.{length, length-map}
+use lib.ListN.{length}
 use Rattle.layout.specs.Model.{still}
 use Rattle.layout.specs.Packed.{list_in}
 use Rattle.layout.specs.Calls.{Reply}

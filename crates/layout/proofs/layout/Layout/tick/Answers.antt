@@ -4,7 +4,7 @@ use mathlib.Core.List.{List}
 use mathlib.Core.Path.{◌≡◌, sym, ap, ◌∙◌}
 use native.Mathlib.Omega.{arith}
 use borrow.Author.Rules.{rules}
-use lib.ListN.{length, length-map, take, drop, get_or, get_or-map}
+use lib.ListN.{length, take, drop, get_or, get_or-map}
 use lib.Seq.{get_or-take}
 use Rattle.image.specs.Table.{table_of}
 use Rattle.layout.specs.Model.{Queued, age_of, still}
