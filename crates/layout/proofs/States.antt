@@ -5,8 +5,6 @@ use mathlib.Core.List.{List, [], ◌∷◌, map}
 use Prim.Native.Nat.{ℕ, ◌+◌, ◌≤◌, ◌<◌}
 use native.Mathlib.Omega.{arith}
 use borrow.Author.Tests.{leb-true, ltb-true, eqb-true, le-leb, lt-leb}
-use denote.Enum.Declared.{tag_of}
-use types.Run.{OneOf, miss}
 use lib.Dec.{leb, ltb, eqb}
 use lib.ListN.{length, take, drop, get_or, replicate, length-drop}
 use Rattle.lists.specs.Lists.{every}
@@ -17,7 +15,6 @@ use Rattle.image.specs.Words.{layers_of}
 use Rattle.image.specs.Tree.{Action, meaning}
 use Rattle.image.specs.declared.record.Action.{Action as Coded}
 use Rattle.image.specs.declared.record.Action.TheVariants as code
-use Rattle.image.specs.contracts.record.Action.{the_type}
 use Rattle.layout.specs.Model.{Queued}
 use Rattle.layout.specs.Packed.{no_slot, no_stacked, queued_of, list_in}
 use Rattle.layout.specs.State.{legal_slot, falling, may_wait, waiting_good, unused_state, unused_slot, unused_event, unused_stacked, state_good}
@@ -65,7 +62,7 @@ falling_short (s ∷ []) h = refl
 falling_short (s ∷ (t ∷ l)) h = absurd (omega arith)
 
 -- a record that is no HoldTap may not wait
-pub no_wait : (img : List ℕ) (n : ℕ) (t : ℕ → Action) (a : Coded) (left : ℕ) → OneOf (0 ∷ 1 ∷ 2 ∷ 3 ∷ 4 ∷ 5 ∷ 6 ∷ []) (tag_of the_type a) → may_wait (meaning img t n a) left ≡ false
+pub no_wait : (img : List ℕ) (n : ℕ) (t : ℕ → Action) (a : Coded) (left : ℕ) → ((w k p : ℕ) → a ≡ code.HoldTap w k p → ⊥) → may_wait (meaning img t n a) left ≡ false
 unfolding meaning
 no_wait img n t code.NoOp left h = refl
 no_wait img n t code.Trans left h = refl
@@ -74,7 +71,7 @@ no_wait img n t (code.MultipleKeyCodes f c) left h = refl
 no_wait img n t (code.MultipleActions f c) left h = refl
 no_wait img n t (code.Layer v) left h = refl
 no_wait img n t (code.DefaultLayer v) left h = refl
-no_wait img n t (code.HoldTap w k p) left h = absurd (miss (0 ∷ 1 ∷ 2 ∷ 3 ∷ 4 ∷ 5 ∷ 6 ∷ []) 7 tt h)
+no_wait img n t (code.HoldTap w k p) left h = absurd (h w k p refl)
 
 -- the parts of a layout that State is not given for
 pub record Legal (img : List ℕ) (lay : Layout) : Type 0 where

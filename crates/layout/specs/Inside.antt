@@ -12,7 +12,7 @@ use Rattle.image.specs.declared.record.Cell.{Cell}
 use Rattle.layout.specs.Model.{Queued, Model, Done, age_of, with_waiting}
 use Rattle.layout.specs.Actions.{find}
 use Rattle.layout.specs.Steps.{codes, pressed, act, into, tick_wait}
-use Rattle.layout.specs.Packed.{pad, no_slot, no_stacked, states_in, queued_of, list_in, waiting_of, waits_at, model_of, unpack}
+use Rattle.layout.specs.Packed.{pad, no_slot, no_stacked, states_in, queued_of, list_in, waiting_of, waits_at, model_of}
 use Rattle.layout.specs.Notes.{no_notes, noted}
 use Rattle.layout.specs.Calls.{judged_of}
 use Rattle.layout.specs.declared.active.Active.{Active}

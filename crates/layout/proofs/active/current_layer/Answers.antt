@@ -23,13 +23,13 @@ loop-i-preserved c =
     let inv = c.loop-i.invariant in
     let one = drop_one c.args.active.states c.args.active.len c.loop-i.i no_slot (omega arith) (omega (arith, c.requires.few)) in
     elim c.match-state.branch [
-    | in-NormalKey w ↦ (
+      | in-NormalKey w ↦ (
         omega arith,
         inv.1 ∙ rw (one, w.in-NormalKey.is, w.sum-is) (omega arith),
         inv.2 ∙ rw (one, w.in-NormalKey.is, w.some-is),
         rw w.sum-is (omega arith),
       )
-    | in-LayerModifier w ↦ (
+      | in-LayerModifier w ↦ (
         omega arith,
         inv.1 ∙ rw (one, w.in-LayerModifier.is, w.sum-is) (omega arith),
         inv.2 ∙ rw (one, w.in-LayerModifier.is, w.some-is) (or-true c.loop-i.some),

@@ -26,14 +26,14 @@ loop-i-preserved c =
     let test : Slot → Bool = λ x. stays c.args.coord x.state in
     let held = ap not (rw c.coord_in.ensures at c.is_same.ensures) in
     elim c.if-not-is_same.branch [
-    | then-not-is_same w ↦
-      let h = filter_yes 64 no_slot test states c.loop-i.i _ c.loop-i.k _ (omega (arith, few)) (omega (arith, few))
-        (sym held ∙ w.if-not-is_same.true-raw) inv.2 inv.3 w.kept-is w.k-is in
-      (omega arith, omega arith, h.0, h.1)
-    | else-not-is_same w ↦
-      let h = filter_no 64 no_slot test states c.loop-i.i _ c.loop-i.k _ (omega (arith, few))
-        (sym held ∙ w.if-not-is_same.false-raw) inv.2 inv.3 w.kept-is w.k-is in
-      (omega arith, omega arith, h.0, h.1)
+      | then-not-is_same w ↦
+          let h = filter_yes 64 no_slot test states c.loop-i.i _ c.loop-i.k _ (omega (arith, few)) (omega (arith, few))
+          (sym held ∙ w.if-not-is_same.true-raw) inv.2 inv.3 w.kept-is w.k-is in
+          (omega arith, omega arith, h.0, h.1)
+      | else-not-is_same w ↦
+          let h = filter_no 64 no_slot test states c.loop-i.i _ c.loop-i.k _ (omega (arith, few))
+          (sym held ∙ w.if-not-is_same.false-raw) inv.2 inv.3 w.kept-is w.k-is in
+          (omega arith, omega arith, h.0, h.1)
     ]
 
 pub returns : goal.returns

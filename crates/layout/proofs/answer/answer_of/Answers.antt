@@ -24,15 +24,15 @@ loop-i-preserved c =
     let more = codes_more c.args.end.active.states c.loop-i.i no_slot (omega (arith, c.requires.0.few)) in
     let before = codes (map (λ (x : Slot). x.state) (take c.loop-i.i c.args.end.active.states)) in
     elim c.match-state.branch [
-    | in-NormalKey w ↦ (
+      | in-NormalKey w ↦ (
         omega arith,
         rw w.k-is (omega arith),
         rw (w.k-is, more, w.in-NormalKey.is, length-append) (omega arith),
         rw (w.out-is, w.k-is, more, w.in-NormalKey.is, inv.3)
-        (buf_more before c.args.out.now _ c.loop-i.k inv.2 (omega (arith, c.requires.1, c.requires.0.few))),
+            (buf_more before c.args.out.now _ c.loop-i.k inv.2 (omega (arith, c.requires.1, c.requires.0.few))),
         rw (w.out-is, length-set) inv.4,
       )
-    | in-LayerModifier w ↦ (
+      | in-LayerModifier w ↦ (
         omega arith,
         rw w.k-is (omega arith),
         rw (w.k-is, more, w.in-LayerModifier.is, append-nil) inv.2,

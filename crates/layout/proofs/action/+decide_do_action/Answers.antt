@@ -1,0 +1,220 @@
+-- `layout::action::decide` and `layout::action::do_action`, which call each other, meet their contracts: the record number
+-- falls, and each arm does what the tree of its record says. Assumes nothing.
+use Prim.Native.Nat.{ℕ}
+use mathlib.Core.List.{List}
+use mathlib.Core.Path.{◌≡◌, refl, sym, ◌∙◌}
+use native.Mathlib.Omega.{arith}
+use native.Mathlib.Nat.{zero-add}
+use borrow.Author.Tests.{ltb-true}
+use lib.Dec.{ltb}
+use Rattle.event.specs.declared.Coord.{Coord}
+use Rattle.image.specs.Record.{children_in, codes_in, list_end}
+use Rattle.image.specs.Tree.{Action, NoOp, tree, meaning}
+use Rattle.image.specs.declared.record.Action.{Action as Coded}
+use Rattle.image.specs.declared.record.Action.TheVariants as code
+use Rattle.image.proofs.Said.{entry_one}
+use Rattle.image.proofs.Accepted.{tells, hold_lower, key_legal, entry_is, entry_not, all_head, all_tail, named_step, named_none}
+use Rattle.layout.specs.Model.{Model, Idle, Begun, Decided, still, marked, with_waiting}
+use Rattle.layout.specs.Actions.{do_action, do_actions, decided, chosen, begins, AtOnce, ruling}
+use Rattle.layout.specs.Packed.{hold_of, tap_of}
+use Rattle.layout.specs.Effects.{Effected}
+use Rattle.layout.specs.declared.notes.Way.{Way}
+use Rattle.layout.specs.declared.notes.Way.TheVariants.{Tap, Hold}
+use Rattle.layout.specs.declared.queue.Found.{Found}
+use Rattle.layout.proofs.Effects.{left_start, left_step, left_end, effected_as, effected_then, effected_begun, effected_nothing}
+use Rattle.layout.proofs.action.+decide_do_action.Goals as goal
+use Rattle.layout.proofs.action.+decide_do_action.Goals.{decide-After-settle-quiet}
+
+-- a record that is no HoldTap has no hold and no tap
+no-hold : (img : List ℕ) (n : ℕ) (t : ℕ → Action) (a : Coded) → ((w k p : ℕ) → a ≡ code.HoldTap w k p → ⊥)
+    → (hold_of (meaning img t n a) ≡ NoOp) × (tap_of (meaning img t n a) ≡ NoOp)
+unfolding meaning
+no-hold img n t code.NoOp h = (refl, refl)
+no-hold img n t code.Trans h = (refl, refl)
+no-hold img n t (code.KeyCode k) h = (refl, refl)
+no-hold img n t (code.MultipleKeyCodes f c) h = (refl, refl)
+no-hold img n t (code.MultipleActions f c) h = (refl, refl)
+no-hold img n t (code.Layer v) h = (refl, refl)
+no-hold img n t (code.DefaultLayer v) h = (refl, refl)
+no-hold img n t (code.HoldTap w k p) h = absurd (h w k p refl)
+
+neither : (way : Way) → chosen way NoOp NoOp ≡ NoOp
+neither Tap = refl
+neither Hold = refl
+
+-- a hold-tap that a queued release decides at once
+begins-now : (way : Way) (h p : Action) (n : ℕ) (c : Coord) (f : Found) (l w : Model)
+    → marked (Begun c) (decided way h p n c f l)
+    ≡ begins (AtOnce way) c w (do_action p n c 0 f (with_waiting Idle l)) (do_action h n c 0 f (with_waiting Idle l))
+unfolding decided
+begins-now Tap h p n c f l w = refl
+begins-now Hold h p n c f l w = refl
+
+-- the effect that is settled, with nothing added yet
+settled : (t : ℕ) (c : decide-After-settle-quiet t)
+    → let a = c.args in
+    Effected a.image.now a.setting.coord a.effect c.settle-quiet.result a.added.now a.added.now
+    (λ l. marked (Decided a.setting.coord a.way) (still (with_waiting Idle l)))
+settled t c = c.settle-quiet.ensures c.args.image.now c.args.setting.coord c.args.added.now c.requires.1
+
+pub decide-returns-in_default : goal.decide-returns-in_default
+unfolding decided do_action
+decide-returns-in_default t c =
+    let a = c.args in
+    let img = a.image.now in
+    let m = tells img a.n {r = c.action_at.result} c.requires.0 c.action_at.ensures refl in
+    let none = no-hold img a.n (tree img) c.action_at.result c.in_default.not-HoldTap in
+    effected_as img a.setting.coord (settled t (goal.at.decide-returns-in_default t c).After-settle-quiet)
+    (λ x q. rw (m.is, none.0, none.1, neither a.way))
+
+pub decide-do_action-requires : goal.decide-do_action-requires
+decide-do_action-requires t c =
+    let m = hold_lower _ _ _ _ _ (tells c.args.image.now c.args.n c.requires.0 c.action_at.ensures c.in-HoldTap.is) in
+    let quiet = settled t (goal.at.decide-do_action-requires t c).After-settle-quiet in
+    (omega (arith, m.1, c.decreases), (c.requires.0, quiet.roomy))
+
+pub decide-do_action-requires-in-Hold : goal.decide-do_action-requires-in-Hold
+decide-do_action-requires-in-Hold t c =
+    let m = hold_lower _ _ _ _ _ (tells c.args.image.now c.args.n c.requires.0 c.action_at.ensures c.in-HoldTap.is) in
+    let quiet = settled t (goal.at.decide-do_action-requires-in-Hold t c).After-settle-quiet in
+    (omega (arith, m.0, c.decreases), (c.requires.0, quiet.roomy))
+
+pub decide-returns-in-Tap : goal.decide-returns-in-Tap
+unfolding decided meaning
+decide-returns-in-Tap t c =
+    let img = c.args.image.now in
+    let k = c.args.setting.coord in
+    let m = tells img c.args.n c.requires.0 c.action_at.ensures c.in-HoldTap.is in
+    let quiet = settled t (goal.at.decide-returns-in-Tap t c).After-settle-quiet in
+    effected_as img k (effected_then img k quiet c.do_action.ensures) (λ x q. rw (c.in-Tap.is, m.is, zero-add))
+
+pub decide-returns-in-Hold : goal.decide-returns-in-Hold
+unfolding decided meaning
+decide-returns-in-Hold t c =
+    let img = c.args.image.now in
+    let k = c.args.setting.coord in
+    let m = tells img c.args.n c.requires.0 c.action_at.ensures c.in-HoldTap.is in
+    let quiet = settled t (goal.at.decide-returns-in-Hold t c).After-settle-quiet in
+    effected_as img k (effected_then img k quiet c.do_action-in-Hold.ensures) (λ x q. rw (c.in-Hold.is, m.is, zero-add))
+
+pub do_action-push_key-requires : goal.do_action-push_key-requires
+do_action-push_key-requires t c =
+    (c.requires.1, key_legal _ _ _ (tells c.args.image.now c.args.n c.requires.0 c.action_at.ensures c.in-KeyCode.is))
+
+pub do_action-push_codes-requires : goal.do_action-push_codes-requires
+unfolding codes_in list_end
+do_action-push_codes-requires t c =
+    let m = tells c.args.image.now c.args.n c.requires.0 c.action_at.ensures c.in-MultipleKeyCodes.is in
+    (c.requires.1, (m.codes, m.listed))
+
+pub do_action-loop-left-init : goal.do_action-loop-left-init
+unfolding children_in
+do_action-loop-left-init t c =
+    let a = c.args in
+    let m = tells a.image.now a.n c.requires.0 c.action_at.ensures c.in-MultipleActions.is in
+    (refl, m.lower, left_start a.image.now a.setting.coord a.effect _ _ c.requires.1)
+
+pub do_action-returns-in_default : goal.do_action-returns-in_default
+unfolding list_end
+do_action-returns-in_default t c =
+    let m = tells c.args.image.now c.args.n c.requires.0 c.action_at.ensures c.in-MultipleActions.is in
+    let past = entry_not _ _ (sym (entry_one _ _ c.entry_at.ensures) ∙ c.in_default.is) in
+    absurd (omega (arith, m.listed, past, c.loop-left.invariant.0, c.loop-left-test.true))
+
+pub do_action-do_action-out-requires : goal.do_action-do_action-out-requires
+do_action-do_action-out-requires t c =
+    let n = c.args.n in
+    let img = c.args.image.now in
+    let b = c.loop-left in
+    let h = entry_is img b.at _ (sym (entry_one _ _ c.entry_at.ensures) ∙ c.in-Word.is) in
+    let low = ltb-true _ n (all_head (λ k. ltb k n) img b.at b.left c.loop-left-test.true b.invariant.1) in
+    (omega (arith, low, h.1, c.decreases), (c.requires.0, b.invariant.2.roomy))
+
+pub do_action-loop-left-preserved : goal.do_action-loop-left-preserved
+unfolding do_actions
+do_action-loop-left-preserved t c =
+    let img = c.args.image.now in
+    let b = c.loop-left in
+    let some = c.loop-left-test.true in
+    let h = entry_is img b.at _ (sym (entry_one _ _ c.entry_at.ensures) ∙ c.in-Word.is) in
+    let rest = rw (named_step (tree img) img b.at b.left some) at b.invariant.2 in (
+      omega (arith, b.invariant.0, some),
+      all_tail (λ k. ltb k c.args.n) img b.at b.left some b.invariant.1,
+      left_step img c.args.setting.coord rest c.do_action-out.ensures (λ l. rw h.1),
+    )
+
+pub do_action-returns-in-NoOp : goal.do_action-returns-in-NoOp
+unfolding do_action meaning
+do_action-returns-in-NoOp t c =
+    let img = c.args.image.now in
+    let k = c.args.setting.coord in
+    effected_as img k (effected_nothing img k _ _ c.requires.1)
+    (λ x q. rw (tells img c.args.n c.requires.0 c.action_at.ensures c.in-NoOp.is).is)
+
+pub do_action-returns-in-Trans : goal.do_action-returns-in-Trans
+unfolding do_action meaning
+do_action-returns-in-Trans t c =
+    let img = c.args.image.now in
+    let k = c.args.setting.coord in
+    effected_as img k (effected_nothing img k _ _ c.requires.1)
+    (λ x q. rw (tells img c.args.n c.requires.0 c.action_at.ensures c.in-Trans.is).is)
+
+pub do_action-returns-in-KeyCode : goal.do_action-returns-in-KeyCode
+unfolding do_action meaning
+do_action-returns-in-KeyCode t c =
+    let img = c.args.image.now in
+    let k = c.args.setting.coord in
+    effected_as img k (c.push_key.ensures img k)
+    (λ x q. rw (tells img c.args.n c.requires.0 c.action_at.ensures c.in-KeyCode.is).is)
+
+pub do_action-returns-in-MultipleKeyCodes : goal.do_action-returns-in-MultipleKeyCodes
+unfolding do_action meaning
+do_action-returns-in-MultipleKeyCodes t c =
+    let img = c.args.image.now in
+    let k = c.args.setting.coord in
+    effected_as img k (c.push_codes.ensures k)
+    (λ x q. rw (tells img c.args.n c.requires.0 c.action_at.ensures c.in-MultipleKeyCodes.is).is)
+
+pub do_action-returns-after-loop-left : goal.do_action-returns-after-loop-left
+unfolding do_action do_actions meaning
+do_action-returns-after-loop-left t c =
+    let img = c.args.image.now in
+    let k = c.args.setting.coord in
+    let b = c.loop-left in
+    let rest = rw (named_none (tree img) img b.at b.left (omega arith)) at b.invariant.2 in
+    effected_as img k (left_end img k rest (λ l. refl))
+    (λ x q. rw (tells img c.args.n c.requires.0 c.action_at.ensures c.in-MultipleActions.is).is)
+
+pub do_action-returns-in-Layer : goal.do_action-returns-in-Layer
+unfolding do_action meaning
+do_action-returns-in-Layer t c =
+    let img = c.args.image.now in
+    let k = c.args.setting.coord in
+    effected_as img k (c.push_layer.ensures img k)
+    (λ x q. rw (tells img c.args.n c.requires.0 c.action_at.ensures c.in-Layer.is).is)
+
+pub do_action-returns-in-DefaultLayer : goal.do_action-returns-in-DefaultLayer
+unfolding do_action meaning
+do_action-returns-in-DefaultLayer t c =
+    let img = c.args.image.now in
+    let k = c.args.setting.coord in
+    effected_as img k (c.with_default.ensures img k _ c.requires.1)
+    (λ x q. rw (tells img c.args.n c.requires.0 c.action_at.ensures c.in-DefaultLayer.is).is)
+
+pub do_action-returns-in-None : goal.do_action-returns-in-None
+unfolding do_action meaning ruling
+do_action-returns-in-None t c =
+    let img = c.args.image.now in
+    let k = c.args.setting.coord in
+    let m = tells img c.args.n c.requires.0 c.action_at.ensures c.in-HoldTap.is in
+    effected_as img k (effected_begun img k k (c.wait_on.ensures img k _ c.requires.1))
+    (λ x q. rw (c.less.ensures, c.in-None.is, m.is))
+
+pub do_action-returns-in-At : goal.do_action-returns-in-At
+unfolding do_action meaning ruling
+do_action-returns-in-At t c =
+    let img = c.args.image.now in
+    let k = c.args.setting.coord in
+    let m = tells img c.args.n c.requires.0 c.action_at.ensures c.in-HoldTap.is in
+    effected_as img k (effected_begun img k k c.decide.ensures)
+    (λ x q. rw (c.queued_way.ensures, c.in-At.is, m.is) (begins-now _ _ _ _ _ _ _ _))
