@@ -1,5 +1,6 @@
 # Whether each must-fail edit says of which kind it is, in its first line, and changes files that its kind allows: a
 # wrong build the code or its contract; a false statement, or a wrong reply in the place of the right one, a definition.
+# Behind such a file a proof may stand, which names a goal as the change has it named.
 
 # the folder that an edit's first line allows; nothing where the line names no kind
 function folderFor(line) {
@@ -18,9 +19,12 @@ function faultIn(edit,    line, folder, files) {
     }
     while ((getline line < edit) > 0) {
         if (line !~ /^file: /) continue
-        files++
         sub(/^file: */, "", line)
-        if (index(line, folder) == 1) continue
+        if (index(line, folder) == 1) {
+            files++
+            continue
+        }
+        if (files && line ~ /^proofs\//) continue
         close(edit)
         return "its file is " line ", and by its first line it would be in " folder
     }
