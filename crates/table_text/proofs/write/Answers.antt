@@ -40,8 +40,9 @@ put_header-size-requires c =
     (long, rw f.1 (few _ f.0 good))
 
 -- with its header it is the image of the text
-whole : (text : List ℕ) (s : Shape) (size : ℕ) (image after : List ℕ) → text_fault text ≡ Fine → counts_good 1 (counts_in text) ≡ true
-    → s ≡ counts_in text → size ≡ s.list_at + 2 * s.entries → length image ≡ 6160 → after ≡ headed_of s image → size ≤ length after
+whole : (text : List ℕ) (s : Shape) (size : ℕ) (image after : List ℕ)
+    → text_fault text ≡ Fine → counts_good 1 (counts_in text) ≡ true → s ≡ counts_in text → size ≡ s.list_at + 2 * s.entries
+    → length image ≡ 6160 → after ≡ headed_of s image → size ≤ length after
 whole text s size image after fine good is e long h =
     let size = e ∙ ap (λ x. x.list_at + 2 * x.entries) is in
     omega (arith, size, (few text fine good).whole, ap length h ∙ headed_long s image ∙ long)
