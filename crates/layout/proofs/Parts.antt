@@ -8,12 +8,11 @@ use native.Mathlib.Omega.{arith}
 use lib.ListN.{length, take, drop, set, length-take, length-map}
 use lib.Seq.{length-take-le}
 use Rattle.event.specs.declared.Event.{Event}
-use Rattle.layout.specs.Model.{Queued, Model, with_states, with_waiting}
+use Rattle.layout.specs.Model.{Queued, Model, with_states}
 use Rattle.layout.specs.Steps.{appended, older_one, older}
 use Rattle.layout.specs.Packed.{pad, no_slot, no_stacked, waiting_of, queued_of, stacked_of, list_in, model_of}
 use Rattle.layout.specs.Inside.{Tidy, Lined, Moves}
 use Rattle.layout.specs.declared.active.Slot.{Slot}
-use Rattle.layout.specs.declared.active.Waiting.{Waiting}
 use Rattle.layout.specs.declared.active.Active.{Active}
 use Rattle.layout.specs.declared.queue.Stacked.{Stacked}
 use Rattle.layout.specs.declared.queue.Queue.{Queue}
@@ -60,10 +59,6 @@ module _ (img : List ℕ) where
         tidy = record { few = omega arith; clean = ap (pad 64 no_slot) is ∙ sym ea };
         is = λ q. ap (λ (x : List Slot). record { base = active.default_layer; states = map (λ (s : Slot). s.state) x; waiting = waiting_of img active.waiting; queue = q }) is;
       }
-
-  pub new_waiting : (active : Active) (w : Waiting) → Tidy active
-      → Moves img active (record { default_layer = active.default_layer; states = active.states; len = active.len; waiting = w }) (with_waiting (waiting_of img w))
-  new_waiting active w t = record { tidy = record { few = t.few; clean = t.clean }; is = λ q. refl }
 
   pub moves_as : {a b : Active} {f g : Model → Model} → Moves img a b f → ((q : List Queued) → f (model_of img a q) ≡ g (model_of img a q)) → Moves img a b g
   moves_as d e = record { tidy = d.tidy; is = λ q. d.is q ∙ e q }

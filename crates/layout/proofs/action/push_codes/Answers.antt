@@ -37,5 +37,8 @@ returns c =
 pub push_key-out-requires : goal.push_key-out-requires
 push_key-out-requires c =
     let img = c.args.image.now in
-    let h = entry_is img c.loop-left.at _ (sym (entry_one _ _ c.entry_at.ensures) ∙ c.in-Word.is) in
-    ((c.loop-left.invariant.2 (record { i = 0; j = 0 })).roomy, ap legal h.1 ∙ all_head legal img c.loop-left.at c.loop-left.left c.loop-left-test.true c.loop-left.invariant.1)
+    let h = entry_is img c.loop-left.at _ (sym (entry_one _ _ c.entry_at.ensures) ∙ c.in-Word.is) in (
+      (c.loop-left.invariant.2 (record { i = 0; j = 0 })).roomy,
+      ap legal h.1
+          ∙ all_head legal img c.loop-left.at c.loop-left.left c.loop-left-test.true c.loop-left.invariant.1,
+    )

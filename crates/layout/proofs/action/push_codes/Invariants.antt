@@ -12,8 +12,10 @@ use Rattle.layout.proofs.action.push_codes.Given as goal
 
 abbrev pub invariant-loop-left : goal.invariant-loop-left
 invariant-loop-left l =
-    (l.at + l.left ≡ l.first + l.count) × (every legal (entries l.image l.at l.left) ≡ true)
-    × ((c : Coord) → Left l.image c l.initial.out l.out l.initial.added l.added (push_codes (entries l.image l.first l.count) c) (push_codes (entries l.image l.at l.left) c))
+    (l.at + l.left ≡ l.first + l.count)
+    × (every legal (entries l.image l.at l.left) ≡ true)
+    × ((c : Coord) → Left l.image c l.initial.out l.out l.initial.added l.added
+    (push_codes (entries l.image l.first l.count) c) (push_codes (entries l.image l.at l.left) c))
 
 abbrev pub decreases-loop-left : goal.decreases-loop-left
 decreases-loop-left l = l.left

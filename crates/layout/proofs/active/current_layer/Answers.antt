@@ -51,5 +51,6 @@ unfolding held
 returns c =
     let inv = c.loop-i.invariant in
     let all : c.loop-i.i ≡ c.args.active.len = omega arith in
-    let no : any (held (map (λ (x : Slot). x.state) (take c.args.active.len c.args.active.states))) ≡ false = inv.2 ∙ rw (c.if-some.false, all, drop_done) in
+    let no : any (held (map (λ (x : Slot). x.state) (take c.args.active.len c.args.active.states))) ≡ false = inv.2 ∙ rw
+    (c.if-some.false, all, drop_done) in
     rw (current_is, no)

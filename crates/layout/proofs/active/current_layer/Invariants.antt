@@ -10,7 +10,13 @@ use Rattle.layout.proofs.Codes.{any}
 use Rattle.layout.proofs.active.current_layer.Given as goal
 
 abbrev pub invariant-loop-i : goal.invariant-loop-i
-invariant-loop-i l = (l.i ≤ l.n) × (sum_of (held (map (λ (s : Slot). s.state) (take l.n l.active.states))) ≡ l.sum + sum_of (held (map (λ (s : Slot). s.state) (drop l.i (take l.n l.active.states))))) × (any (held (map (λ (s : Slot). s.state) (take l.n l.active.states))) ≡ l.some || any (held (map (λ (s : Slot). s.state) (drop l.i (take l.n l.active.states))))) × (l.sum ≤ 65535 * l.i)
+invariant-loop-i l =
+    (l.i ≤ l.n)
+    × (sum_of (held (map (λ (s : Slot). s.state) (take l.n l.active.states)))
+    ≡ l.sum + sum_of (held (map (λ (s : Slot). s.state) (drop l.i (take l.n l.active.states)))))
+    × (any (held (map (λ (s : Slot). s.state) (take l.n l.active.states)))
+    ≡ l.some || any (held (map (λ (s : Slot). s.state) (drop l.i (take l.n l.active.states)))))
+    × (l.sum ≤ 65535 * l.i)
 
 abbrev pub decreases-loop-i : goal.decreases-loop-i
 decreases-loop-i l = l.n - l.i

@@ -42,5 +42,7 @@ returns c =
     let all : c.loop-i.i ≡ c.args.active.len = omega arith in
     let l = take c.args.active.len c.args.active.states in
     let test : Slot → Bool = λ x. stays c.args.coord x.state in
-    λ img. moves_as img (new_states img c.args.active (keep test l) _ _ (omega (arith, keep_length test l, held_length c.args.active c.requires, c.requires.few)) (rw all at c.loop-i.invariant.2) (rw all at c.loop-i.invariant.3))
+    λ img. moves_as img (new_states img c.args.active (keep test l) _ _
+    (omega (arith, keep_length test l, held_length c.args.active c.requires, c.requires.few)) (rw all at c.loop-i.invariant.2)
+    (rw all at c.loop-i.invariant.3))
     (λ q. rw (keep_map (stays c.args.coord) l))

@@ -9,7 +9,11 @@ use lib.ListN.{length, take}
 use Rattle.layout.proofs.active.release.Given as goal
 
 abbrev pub invariant-loop-i : goal.invariant-loop-i
-invariant-loop-i l = (l.i ≤ l.n) × (l.k ≤ l.i) × (l.k ≡ length (keep (λ (s : Slot). stays l.coord s.state) (take l.i l.active.states))) × (l.kept ≡ pad 64 no_slot (keep (λ (s : Slot). stays l.coord s.state) (take l.i l.active.states)))
+invariant-loop-i l =
+    (l.i ≤ l.n)
+    × (l.k ≤ l.i)
+    × (l.k ≡ length (keep (λ (s : Slot). stays l.coord s.state) (take l.i l.active.states)))
+    × (l.kept ≡ pad 64 no_slot (keep (λ (s : Slot). stays l.coord s.state) (take l.i l.active.states)))
 
 abbrev pub decreases-loop-i : goal.decreases-loop-i
 decreases-loop-i l = l.n - l.i

@@ -69,6 +69,10 @@ returns c =
     let k = (goal.at.returns c).After-check-checked in
     let good = sym c.state_good.ensures in
     record {
-      verdict = rw (checked-is k _ c.in-Accepted.is, good ∙ not-false _ c.if-not-state_good.false-raw, le-leb _ _ c.if-room-lt-STATES.false);
+      verdict = rw (
+        checked-is k _ c.in-Accepted.is,
+        good ∙ not-false _ c.if-not-state_good.false-raw,
+        le-leb _ _ c.if-room-lt-STATES.false,
+      );
       layers = λ fine. layers k _ c.in-Accepted.is;
     }

@@ -20,8 +20,13 @@ loop-k-init c = (omega arith, refl, refl)
 
 pub loop-k-preserved : goal.loop-k-preserved
 loop-k-preserved c =
-    let long = lined_length c.args.queue c.requires in
-    (omega arith, c.loop-k.invariant.1, rw (older-is _ _ c.one_older.ensures) (map_on older_in c.args.queue.stacked c.loop-k.out.stacked c.loop-k.k no_stacked (omega (arith, c.requires.few)) c.loop-k.invariant.2))
+    let long = lined_length c.args.queue c.requires in (
+      omega arith,
+      c.loop-k.invariant.1,
+      rw (older-is _ _ c.one_older.ensures)
+          (map_on older_in c.args.queue.stacked c.loop-k.out.stacked c.loop-k.k no_stacked (omega (arith, c.requires.few))
+          c.loop-k.invariant.2),
+    )
 
 pub returns : goal.returns
 returns c =
@@ -29,7 +34,9 @@ returns c =
     let few = c.requires.few in
     let long = lined_length q c.requires in
     let all : c.loop-k.k ≡ q.queued = omega arith in
-    let count : length (map older_in (take q.queued q.stacked)) ≡ q.queued = rw (length-map) (length-take-le q.queued q.stacked (omega arith)) in
+    let count : length (map older_in (take q.queued q.stacked)) ≡ q.queued = rw (length-map)
+    (length-take-le q.queued q.stacked (omega arith)) in
     let rest = clean_rest 16 q.queued no_stacked q.stacked (omega arith) c.requires.clean in
-    let n = new_queue (map older_in (take q.queued q.stacked)) c.loop-k.out.stacked c.loop-k.out.queued (omega arith) (c.loop-k.invariant.1 ∙ sym count) (rw all at c.loop-k.invariant.2 ∙ rw (rest, count)) in
+    let n = new_queue (map older_in (take q.queued q.stacked)) c.loop-k.out.stacked c.loop-k.out.queued (omega arith)
+    (c.loop-k.invariant.1 ∙ sym count) (rw all at c.loop-k.invariant.2 ∙ rw (rest, count)) in
     (n.0, n.1 ∙ older_list (take q.queued q.stacked))

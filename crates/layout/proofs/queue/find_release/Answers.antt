@@ -14,13 +14,25 @@ pub returns-then-is_release : goal.returns-then-is_release
 unfolding find
 returns-then-is_release c =
     let long = lined_length c.args.queue c.requires in
-    sym (c.loop-i.invariant.1 ∙ rw (drop_one c.args.queue.stacked c.args.queue.queued c.loop-i.i no_stacked (omega arith) (omega (arith, c.requires.few)), ← c.is_release.ensures, c.if-is_release.true))
+    sym (c.loop-i.invariant.1 ∙ rw (
+      drop_one c.args.queue.stacked c.args.queue.queued c.loop-i.i no_stacked (omega arith)
+          (omega (arith, c.requires.few)),
+      ← c.is_release.ensures,
+      c.if-is_release.true,
+    ))
 
 pub loop-i-preserved : goal.loop-i-preserved
 unfolding find
 loop-i-preserved c =
-    let long = lined_length c.args.queue c.requires in
-    (omega arith, c.loop-i.invariant.1 ∙ rw (drop_one c.args.queue.stacked c.args.queue.queued c.loop-i.i no_stacked (omega arith) (omega (arith, c.requires.few)), ← c.is_release.ensures, c.if-is_release.false))
+    let long = lined_length c.args.queue c.requires in (
+      omega arith,
+      c.loop-i.invariant.1 ∙ rw (
+        drop_one c.args.queue.stacked c.args.queue.queued c.loop-i.i no_stacked (omega arith)
+            (omega (arith, c.requires.few)),
+        ← c.is_release.ensures,
+        c.if-is_release.false,
+      ),
+    )
 
 pub returns : goal.returns
 unfolding find

@@ -8,7 +8,10 @@ use Rattle.layout.specs.Packed.{queued_of}
 use Rattle.layout.proofs.queue.find_release.Given as goal
 
 abbrev pub invariant-loop-i : goal.invariant-loop-i
-invariant-loop-i l = (l.i ≤ l.n) × (find l.coord (map queued_of (take l.n l.queue.stacked)) ≡ find l.coord (map queued_of (drop l.i (take l.n l.queue.stacked))))
+invariant-loop-i l =
+    (l.i ≤ l.n)
+    × (find l.coord (map queued_of (take l.n l.queue.stacked))
+    ≡ find l.coord (map queued_of (drop l.i (take l.n l.queue.stacked))))
 
 abbrev pub decreases-loop-i : goal.decreases-loop-i
 decreases-loop-i l = l.n - l.i

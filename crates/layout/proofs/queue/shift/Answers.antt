@@ -15,8 +15,11 @@ loop-k-init c = (omega arith, refl)
 
 pub loop-k-preserved : goal.loop-k-preserved
 loop-k-preserved c =
-    let long = lined_length c.args.queue c.requires.0 in
-    (omega arith, tail_on c.args.queue.stacked c.loop-k.out.stacked c.loop-k.k no_stacked (omega (arith, c.requires.0.few)) c.loop-k.invariant.1)
+    let long = lined_length c.args.queue c.requires.0 in (
+      omega arith,
+      tail_on c.args.queue.stacked c.loop-k.out.stacked c.loop-k.k no_stacked
+          (omega (arith, c.requires.0.few)) c.loop-k.invariant.1,
+    )
 
 pub returns : goal.returns
 returns c =
@@ -31,5 +34,14 @@ returns c =
     let count : length (take (n - 1) (drop 1 all)) ≡ n - 1 = length-take-le (n - 1) (drop 1 all) (omega arith) in
     let rest = clean_rest 16 n no_stacked all (omega arith) c.requires.0.clean in
     let moved = rw up at c.loop-k.invariant.1 in
-    let q = new_queue (take (n - 1) (drop 1 all)) (set c.loop-k.out.stacked (n - 1) no_stacked) (n - 1) (omega arith) (sym count) (rw (moved, buf_more (take (n - 1) (drop 1 all)) all no_stacked (n - 1) (sym count) (omega arith), last, rest, count, one, append_snoc)) in
+    let q = new_queue (take (n - 1) (drop 1 all)) (set c.loop-k.out.stacked (n - 1) no_stacked) (n - 1) (omega arith) (sym count)
+    (rw (
+      moved,
+      buf_more (take (n - 1) (drop 1 all)) all no_stacked (n - 1) (sym count) (omega arith),
+      last,
+      rest,
+      count,
+      one,
+      append_snoc,
+    )) in
     (q.0, q.1 ∙ ap (map queued_of) (sym (drop1_take n all)) ∙ rest_list (take n all))

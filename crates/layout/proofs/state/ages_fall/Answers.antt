@@ -18,13 +18,18 @@ loop-i-init c = (omega arith, refl)
 
 pub returns-then-front-next : goal.returns-then-front-next
 returns-then-front-next c =
-    sym (c.loop-i.invariant.1 ∙ falling_stop c.args.queue.stacked c.args.queue.queued c.loop-i.i no_stacked (omega arith) (omega (arith, long (goal.at.returns-then-front-next c).Start, c.requires)) c.if-front-next.true)
+    sym (c.loop-i.invariant.1 ∙ falling_stop c.args.queue.stacked c.args.queue.queued c.loop-i.i no_stacked (omega arith)
+    (omega (arith, long (goal.at.returns-then-front-next c).Start, c.requires)) c.if-front-next.true)
 
 pub loop-i-preserved : goal.loop-i-preserved
-loop-i-preserved c =
-    (omega arith, c.loop-i.invariant.1 ∙ falling_next c.args.queue.stacked c.args.queue.queued c.loop-i.i no_stacked (omega arith) (omega (arith, long (goal.at.loop-i-preserved c).Start, c.requires)) c.if-front-next.false)
+loop-i-preserved c = (
+  omega arith,
+  c.loop-i.invariant.1 ∙ falling_next c.args.queue.stacked c.args.queue.queued c.loop-i.i no_stacked (omega arith)
+      (omega (arith, long (goal.at.loop-i-preserved c).Start, c.requires)) c.if-front-next.false,
+)
 
 pub returns : goal.returns
 returns c =
     let n = c.args.queue.queued in
-    sym (c.loop-i.invariant.1 ∙ falling_short (map queued_of (drop c.loop-i.i (take n c.args.queue.stacked))) (simp (length-map, length-drop, length-take) (omega arith)))
+    sym (c.loop-i.invariant.1 ∙ falling_short (map queued_of (drop c.loop-i.i (take n c.args.queue.stacked)))
+    (simp (length-map, length-drop, length-take) (omega arith)))

@@ -8,7 +8,9 @@ use Rattle.layout.specs.State.{falling}
 use Rattle.layout.proofs.state.ages_fall.Given as goal
 
 abbrev pub invariant-loop-i : goal.invariant-loop-i
-invariant-loop-i l = (l.i ≤ l.n) × (falling (map queued_of (take l.n l.queue.stacked)) ≡ falling (map queued_of (drop l.i (take l.n l.queue.stacked))))
+invariant-loop-i l =
+    (l.i ≤ l.n)
+    × (falling (map queued_of (take l.n l.queue.stacked)) ≡ falling (map queued_of (drop l.i (take l.n l.queue.stacked))))
 
 abbrev pub decreases-loop-i : goal.decreases-loop-i
 decreases-loop-i l = l.n - l.i

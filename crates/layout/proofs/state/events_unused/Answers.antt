@@ -19,12 +19,19 @@ loop-i-init c = (omega arith, refl)
 
 pub returns-then-not-is_unused_event : goal.returns-then-not-is_unused_event
 returns-then-not-is_unused_event c =
-    sym (c.loop-i.invariant.1 ∙ every_fails unused_stacked c.args.queue.stacked c.loop-i.i no_stacked (omega (arith, long (goal.at.returns-then-not-is_unused_event c).Start)) (sym c.is_unused_event.ensures ∙ not-true _ c.if-not-is_unused_event.true-raw))
+    sym (c.loop-i.invariant.1 ∙ every_fails unused_stacked c.args.queue.stacked c.loop-i.i no_stacked
+    (omega (arith, long (goal.at.returns-then-not-is_unused_event c).Start))
+    (sym c.is_unused_event.ensures ∙ not-true _ c.if-not-is_unused_event.true-raw))
 
 pub loop-i-preserved : goal.loop-i-preserved
-loop-i-preserved c =
-    (omega arith, c.loop-i.invariant.1 ∙ every_on unused_stacked c.args.queue.stacked c.loop-i.i no_stacked (omega (arith, long (goal.at.loop-i-preserved c).Start)) (sym c.is_unused_event.ensures ∙ not-false _ c.if-not-is_unused_event.false-raw))
+loop-i-preserved c = (
+  omega arith,
+  c.loop-i.invariant.1 ∙ every_on unused_stacked c.args.queue.stacked c.loop-i.i no_stacked
+      (omega (arith, long (goal.at.loop-i-preserved c).Start))
+      (sym c.is_unused_event.ensures ∙ not-false _ c.if-not-is_unused_event.false-raw),
+)
 
 pub returns : goal.returns
 returns c =
-    sym (c.loop-i.invariant.1 ∙ every_none unused_stacked c.args.queue.stacked c.loop-i.i no_stacked (omega (arith, long (goal.at.returns c).Start)))
+    sym (c.loop-i.invariant.1 ∙ every_none unused_stacked c.args.queue.stacked c.loop-i.i no_stacked
+    (omega (arith, long (goal.at.returns c).Start)))

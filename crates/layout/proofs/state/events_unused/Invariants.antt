@@ -7,7 +7,9 @@ use Rattle.layout.specs.State.{unused_stacked}
 use Rattle.layout.proofs.state.events_unused.Given as goal
 
 abbrev pub invariant-loop-i : goal.invariant-loop-i
-invariant-loop-i l = (l.initial.i ≤ l.i) × (every unused_stacked (drop l.initial.i l.queue.stacked) ≡ every unused_stacked (drop l.i l.queue.stacked))
+invariant-loop-i l =
+    (l.initial.i ≤ l.i)
+    × (every unused_stacked (drop l.initial.i l.queue.stacked) ≡ every unused_stacked (drop l.i l.queue.stacked))
 
 abbrev pub decreases-loop-i : goal.decreases-loop-i
 decreases-loop-i l = 16 - l.i

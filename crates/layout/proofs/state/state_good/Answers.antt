@@ -30,9 +30,19 @@ waits c = sym c.waiting_good.ensures ∙ not-false _ c.if-not-waiting_good.false
 
 -- all of them but the unused places
 all-but-unused : (c : Else-not-waiting_good) (rest : Bool)
-    → (leb c.args.active.len 64 && (leb c.args.queue.queued 16 && (every legal_slot (take c.args.active.len c.args.active.states) && (ltb c.args.active.default_layer (layers_of c.args.image.now) && (falling (list_in c.args.queue) && (waiting_good c.args.image.now c.args.active.waiting && rest)))))) ≡ rest
+    → (leb c.args.active.len 64 && (leb c.args.queue.queued 16 &&
+    (every legal_slot (take c.args.active.len c.args.active.states) &&
+    (ltb c.args.active.default_layer (layers_of c.args.image.now) &&
+    (falling (list_in c.args.queue) && (waiting_good c.args.image.now c.args.active.waiting && rest)))))) ≡ rest
 all-but-unused c rest =
-    rw ((sized (goal.at.Else-not-waiting_good c).Else-queue-gt-QUEUE).0, (sized (goal.at.Else-not-waiting_good c).Else-queue-gt-QUEUE).1, coded (goal.at.Else-not-waiting_good c).Else-not-states_legal, based (goal.at.Else-not-waiting_good c).Else-layers-active, aged (goal.at.Else-not-waiting_good c).Else-not-ages_fall, waits c)
+    rw (
+      (sized (goal.at.Else-not-waiting_good c).Else-queue-gt-QUEUE).0,
+      (sized (goal.at.Else-not-waiting_good c).Else-queue-gt-QUEUE).1,
+      coded (goal.at.Else-not-waiting_good c).Else-not-states_legal,
+      based (goal.at.Else-not-waiting_good c).Else-layers-active,
+      aged (goal.at.Else-not-waiting_good c).Else-not-ages_fall,
+      waits c,
+    )
 
 pub returns-then-active-gt-STATES : goal.returns-then-active-gt-STATES
 unfolding state_good
@@ -45,29 +55,60 @@ returns-then-queue-gt-QUEUE c = rw (le-leb _ _ c.if-active-gt-STATES.false, lt-l
 pub returns-then-not-states_legal : goal.returns-then-not-states_legal
 unfolding state_good
 returns-then-not-states_legal c =
-    rw ((sized (goal.at.returns-then-not-states_legal c).Else-queue-gt-QUEUE).0, (sized (goal.at.returns-then-not-states_legal c).Else-queue-gt-QUEUE).1, sym c.states_legal.ensures ∙ not-true _ c.if-not-states_legal.true-raw)
+    rw (
+      (sized (goal.at.returns-then-not-states_legal c).Else-queue-gt-QUEUE).0,
+      (sized (goal.at.returns-then-not-states_legal c).Else-queue-gt-QUEUE).1,
+      sym c.states_legal.ensures
+          ∙ not-true _ c.if-not-states_legal.true-raw,
+    )
 
 pub returns-then-layers-active : goal.returns-then-layers-active
 unfolding state_good
 returns-then-layers-active c =
-    rw ((sized (goal.at.returns-then-layers-active c).Else-queue-gt-QUEUE).0, (sized (goal.at.returns-then-layers-active c).Else-queue-gt-QUEUE).1, coded (goal.at.returns-then-layers-active c).Else-not-states_legal, le-ltb c.args.active.default_layer (layers_of c.args.image.now) (omega (arith, c.if-layers-active.true, c.requires.1)))
+    rw (
+      (sized (goal.at.returns-then-layers-active c).Else-queue-gt-QUEUE).0,
+      (sized (goal.at.returns-then-layers-active c).Else-queue-gt-QUEUE).1,
+      coded
+          (goal.at.returns-then-layers-active c).Else-not-states_legal,
+      le-ltb c.args.active.default_layer (layers_of c.args.image.now)
+          (omega (arith, c.if-layers-active.true, c.requires.1)),
+    )
 
 pub returns-then-not-ages_fall : goal.returns-then-not-ages_fall
 unfolding state_good
 returns-then-not-ages_fall c =
-    rw ((sized (goal.at.returns-then-not-ages_fall c).Else-queue-gt-QUEUE).0, (sized (goal.at.returns-then-not-ages_fall c).Else-queue-gt-QUEUE).1, coded (goal.at.returns-then-not-ages_fall c).Else-not-states_legal, based (goal.at.returns-then-not-ages_fall c).Else-layers-active, sym c.ages_fall.ensures ∙ not-true _ c.if-not-ages_fall.true-raw)
+    rw (
+      (sized (goal.at.returns-then-not-ages_fall c).Else-queue-gt-QUEUE).0,
+      (sized (goal.at.returns-then-not-ages_fall c).Else-queue-gt-QUEUE).1,
+      coded
+          (goal.at.returns-then-not-ages_fall c).Else-not-states_legal,
+      based (goal.at.returns-then-not-ages_fall c).Else-layers-active,
+      sym c.ages_fall.ensures ∙ not-true _ c.if-not-ages_fall.true-raw,
+    )
 
 pub returns-then-not-waiting_good : goal.returns-then-not-waiting_good
 unfolding state_good
 returns-then-not-waiting_good c =
-    rw ((sized (goal.at.returns-then-not-waiting_good c).Else-queue-gt-QUEUE).0, (sized (goal.at.returns-then-not-waiting_good c).Else-queue-gt-QUEUE).1, coded (goal.at.returns-then-not-waiting_good c).Else-not-states_legal, based (goal.at.returns-then-not-waiting_good c).Else-layers-active, aged (goal.at.returns-then-not-waiting_good c).Else-not-ages_fall, sym c.waiting_good.ensures ∙ not-true _ c.if-not-waiting_good.true-raw)
+    rw (
+      (sized (goal.at.returns-then-not-waiting_good c).Else-queue-gt-QUEUE).0,
+      (sized (goal.at.returns-then-not-waiting_good c).Else-queue-gt-QUEUE).1,
+      coded
+          (goal.at.returns-then-not-waiting_good c).Else-not-states_legal,
+      based
+          (goal.at.returns-then-not-waiting_good c).Else-layers-active,
+      aged
+          (goal.at.returns-then-not-waiting_good c).Else-not-ages_fall,
+      sym c.waiting_good.ensures ∙ not-true _ c.if-not-waiting_good.true-raw,
+    )
 
 pub returns-then-states_unused : goal.returns-then-states_unused
 unfolding state_good
 returns-then-states_unused c =
-    sym (all-but-unused (goal.at.returns-then-states_unused c).Else-not-waiting_good _ ∙ rw (sym c.states_unused.ensures ∙ c.if-states_unused.true) (sym c.events_unused.ensures))
+    sym (all-but-unused (goal.at.returns-then-states_unused c).Else-not-waiting_good _ ∙ rw
+    (sym c.states_unused.ensures ∙ c.if-states_unused.true) (sym c.events_unused.ensures))
 
 pub returns-else-states_unused : goal.returns-else-states_unused
 unfolding state_good
 returns-else-states_unused c =
-    sym (all-but-unused (goal.at.returns-else-states_unused c).Else-not-waiting_good _ ∙ rw (sym c.states_unused.ensures ∙ c.if-states_unused.false) (sym c.if-states_unused.false))
+    sym (all-but-unused (goal.at.returns-else-states_unused c).Else-not-waiting_good _ ∙ rw
+    (sym c.states_unused.ensures ∙ c.if-states_unused.false) (sym c.if-states_unused.false))

@@ -21,11 +21,17 @@ loop-i-init c = (omega arith, refl)
 
 pub returns-then-not-is_legal_state : goal.returns-then-not-is_legal_state
 returns-then-not-is_legal_state c =
-    sym (c.loop-i.invariant.1 ∙ every_stop legal_slot c.args.active.states c.args.active.len c.loop-i.i no_slot (omega arith) (omega (arith, long (goal.at.returns-then-not-is_legal_state c).Start, c.requires)) (sym c.is_legal_state.ensures ∙ not-true _ c.if-not-is_legal_state.true-raw))
+    sym (c.loop-i.invariant.1 ∙ every_stop legal_slot c.args.active.states c.args.active.len c.loop-i.i no_slot (omega arith)
+    (omega (arith, long (goal.at.returns-then-not-is_legal_state c).Start, c.requires))
+    (sym c.is_legal_state.ensures ∙ not-true _ c.if-not-is_legal_state.true-raw))
 
 pub loop-i-preserved : goal.loop-i-preserved
-loop-i-preserved c =
-    (omega arith, c.loop-i.invariant.1 ∙ every_next legal_slot c.args.active.states c.args.active.len c.loop-i.i no_slot (omega arith) (omega (arith, long (goal.at.loop-i-preserved c).Start, c.requires)) (sym c.is_legal_state.ensures ∙ not-false _ c.if-not-is_legal_state.false-raw))
+loop-i-preserved c = (
+  omega arith,
+  c.loop-i.invariant.1 ∙ every_next legal_slot c.args.active.states c.args.active.len c.loop-i.i no_slot
+      (omega arith) (omega (arith, long (goal.at.loop-i-preserved c).Start, c.requires))
+      (sym c.is_legal_state.ensures ∙ not-false _ c.if-not-is_legal_state.false-raw),
+)
 
 pub returns : goal.returns
 unfolding every

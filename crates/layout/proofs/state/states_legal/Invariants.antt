@@ -7,7 +7,9 @@ use Rattle.layout.specs.State.{legal_slot}
 use Rattle.layout.proofs.state.states_legal.Given as goal
 
 abbrev pub invariant-loop-i : goal.invariant-loop-i
-invariant-loop-i l = (l.i ≤ l.n) × (every legal_slot (take l.n l.active.states) ≡ every legal_slot (drop l.i (take l.n l.active.states)))
+invariant-loop-i l =
+    (l.i ≤ l.n)
+    × (every legal_slot (take l.n l.active.states) ≡ every legal_slot (drop l.i (take l.n l.active.states)))
 
 abbrev pub decreases-loop-i : goal.decreases-loop-i
 decreases-loop-i l = l.n - l.i

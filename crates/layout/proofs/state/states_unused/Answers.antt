@@ -19,12 +19,19 @@ loop-i-init c = (omega arith, refl)
 
 pub returns-then-not-is_unused_state : goal.returns-then-not-is_unused_state
 returns-then-not-is_unused_state c =
-    sym (c.loop-i.invariant.1 ∙ every_fails unused_slot c.args.active.states c.loop-i.i no_slot (omega (arith, long (goal.at.returns-then-not-is_unused_state c).Start)) (sym c.is_unused_state.ensures ∙ not-true _ c.if-not-is_unused_state.true-raw))
+    sym (c.loop-i.invariant.1 ∙ every_fails unused_slot c.args.active.states c.loop-i.i no_slot
+    (omega (arith, long (goal.at.returns-then-not-is_unused_state c).Start))
+    (sym c.is_unused_state.ensures ∙ not-true _ c.if-not-is_unused_state.true-raw))
 
 pub loop-i-preserved : goal.loop-i-preserved
-loop-i-preserved c =
-    (omega arith, c.loop-i.invariant.1 ∙ every_on unused_slot c.args.active.states c.loop-i.i no_slot (omega (arith, long (goal.at.loop-i-preserved c).Start)) (sym c.is_unused_state.ensures ∙ not-false _ c.if-not-is_unused_state.false-raw))
+loop-i-preserved c = (
+  omega arith,
+  c.loop-i.invariant.1 ∙ every_on unused_slot c.args.active.states c.loop-i.i no_slot
+      (omega (arith, long (goal.at.loop-i-preserved c).Start))
+      (sym c.is_unused_state.ensures ∙ not-false _ c.if-not-is_unused_state.false-raw),
+)
 
 pub returns : goal.returns
 returns c =
-    sym (c.loop-i.invariant.1 ∙ every_none unused_slot c.args.active.states c.loop-i.i no_slot (omega (arith, long (goal.at.returns c).Start)))
+    sym (c.loop-i.invariant.1 ∙ every_none unused_slot c.args.active.states c.loop-i.i no_slot
+    (omega (arith, long (goal.at.returns c).Start)))

@@ -28,7 +28,8 @@ decide-effect-requires c =
 
 pub after_effect-held-requires : goal.after_effect-held-requires
 after_effect-held-requires c =
-    effect_ends c.args.image.now _ c.args.active c.args.notes c.effect_of.result c.decide-effect.result _ _ c.requires.tidy c.effect_of.ensures c.decide-effect.ensures
+    effect_ends c.args.image.now _ c.args.active c.args.notes c.effect_of.result c.decide-effect.result _ _ c.requires.tidy
+    c.effect_of.ensures c.decide-effect.ensures
 
 pub unstack-requires-2 : goal.unstack-requires-2
 unstack-requires-2 c =
@@ -41,5 +42,7 @@ returns c =
     let img = c.args.image.now in
     did_then img (act (table_of img) c.args.oldest.event c.args.oldest.since)
     (into_on img c.args.active c.args.notes Hold (list_in c.args.queue) c.after_effect-held.result _ c.in-On.is
-    (becomes_so img c.args.active c.args.notes Hold c.args.layers c.args.queue _ c.setting_of.result c.effect_of.result c.decide-effect.result _ _ c.after_effect-held.result c.requires.tidy c.requires.layers c.setting_of.ensures c.effect_of.ensures c.decide-effect.ensures c.after_effect-held.ensures))
+    (becomes_so img c.args.active c.args.notes Hold c.args.layers c.args.queue _ c.setting_of.result c.effect_of.result
+    c.decide-effect.result _ _ c.after_effect-held.result c.requires.tidy c.requires.layers c.setting_of.ensures
+    c.effect_of.ensures c.decide-effect.ensures c.after_effect-held.ensures))
     c.unstack-2.ensures

@@ -30,20 +30,24 @@ not-trans img n t (code.HoldTap w k p) b h = refl
 pub returns-in_default : goal.returns-in_default
 unfolding tree_in
 returns-in_default c =
-    λ q. press_outside c.args.image.now c.args.coord (model_of c.args.image.now c.args.active q) _ _ c.current_layer.ensures (cell_one _ _ c.cell_at.ensures) c.in_default.is
+    λ q. press_outside c.args.image.now c.args.coord (model_of c.args.image.now c.args.active q) _ _ c.current_layer.ensures
+    (cell_one _ _ c.cell_at.ensures) c.in_default.is
 
 pub returns-in-Trans : goal.returns-in-Trans
 unfolding tree_in meaning
 returns-in-Trans c =
     let img = c.args.image.now in
     let m = tells img _ c.requires.0 c.action_at.ensures c.in-Trans.is in
-    let base : c.cell_at-in-Trans.result ≡ cell_at img c.args.active.default_layer c.args.coord.i c.args.coord.j = cell_one _ _ c.cell_at-in-Trans.ensures in
-    λ q. ap (tree_in img) base ∙ press_trans img c.args.coord (model_of img c.args.active q) _ _ c.current_layer.ensures (cell_one _ _ c.cell_at.ensures) _ c.in-Record.is m.is
+    let base : c.cell_at-in-Trans.result ≡ cell_at img c.args.active.default_layer c.args.coord.i c.args.coord.j = cell_one _ _
+    c.cell_at-in-Trans.ensures in
+    λ q. ap (tree_in img) base ∙ press_trans img c.args.coord (model_of img c.args.active q) _ _ c.current_layer.ensures
+    (cell_one _ _ c.cell_at.ensures) _ c.in-Record.is m.is
 
 pub returns-in_default-action_at : goal.returns-in_default-action_at
 unfolding tree_in
 returns-in_default-action_at c =
     let img = c.args.image.now in
     let m = tells img _ {r = c.action_at.result} c.requires.0 c.action_at.ensures refl in
-    λ q. press_own img c.args.coord (model_of img c.args.active q) _ _ c.current_layer.ensures (cell_one _ _ c.cell_at.ensures) _ c.in-Record.is
+    λ q. press_own img c.args.coord (model_of img c.args.active q) _ _ c.current_layer.ensures
+    (cell_one _ _ c.cell_at.ensures) _ c.in-Record.is
     (rw m.is (not-trans img _ (tree img) _ _ c.in_default-action_at.not-Trans))

@@ -18,7 +18,9 @@ pub returns-in-Release : goal.returns-in-Release
 returns-in-Release c =
     let img = c.args.image.now in
     let q = list_in c.args.queue in
-    release_acts img c.args.active c.args.notes c.note_acted-noted.result _ q c.args.stacked.event _ _ c.args.stacked.since c.note_acted-noted.ensures c.in-Release.is (did_moves img c.args.active c.release.result c.note_acted-noted.result q (c.release.ensures img))
+    release_acts img c.args.active c.args.notes c.note_acted-noted.result _ q c.args.stacked.event _ _ c.args.stacked.since
+    c.note_acted-noted.ensures c.in-Release.is
+    (did_moves img c.args.active c.release.result c.note_acted-noted.result q (c.release.ensures img))
 
 pub press_as_action-requires : goal.press_as_action-requires
 press_as_action-requires c = (c.requires.sound, c.requires.tidy)
@@ -28,7 +30,9 @@ unfolding do_action tree_in
 returns-in_default c =
     let img = c.args.image.now in
     let q = list_in c.args.queue in
-    press_acts img c.args.active c.args.notes c.note_acted-noted.result (record { active = c.args.active; notes = c.note_acted-noted.result }) q c.args.stacked.event _ _ c.args.stacked.since c.note_acted-noted.ensures c.args.layers Outside c.requires.layers c.in-Press.is
+    let notes = c.note_acted-noted.result in
+    press_acts img c.args.active c.args.notes notes (record { active = c.args.active; notes = notes }) q c.args.stacked.event _ _
+    c.args.stacked.since c.note_acted-noted.ensures c.args.layers Outside c.requires.layers c.in-Press.is
     (ap (tree_in img) (sym c.in_default.is) ∙ c.press_as_action.ensures q)
     (did_nothing img c.args.active c.note_acted-noted.result q c.requires.tidy)
 
@@ -41,13 +45,17 @@ do_action-effect-requires c =
 
 pub after_effect-requires : goal.after_effect-requires
 after_effect-requires c =
-    effect_ends c.args.image.now _ c.args.active c.note_acted-noted.result c.effect_of.result c.do_action-effect.result _ _ c.requires.tidy c.effect_of.ensures c.do_action-effect.ensures
+    effect_ends c.args.image.now _ c.args.active c.note_acted-noted.result c.effect_of.result c.do_action-effect.result _ _
+    c.requires.tidy c.effect_of.ensures c.do_action-effect.ensures
 
 pub returns-in-Record : goal.returns-in-Record
 unfolding tree_in
 returns-in-Record c =
     let img = c.args.image.now in
     let q = list_in c.args.queue in
-    press_acts img c.args.active c.args.notes c.note_acted-noted.result c.after_effect.result q c.args.stacked.event _ _ c.args.stacked.since c.note_acted-noted.ensures c.args.layers (Record _) c.requires.layers c.in-Press.is
+    press_acts img c.args.active c.args.notes c.note_acted-noted.result c.after_effect.result q c.args.stacked.event _ _
+    c.args.stacked.since c.note_acted-noted.ensures c.args.layers (Record _) c.requires.layers c.in-Press.is
     (ap (tree_in img) (sym c.in-Record.is) ∙ c.press_as_action.ensures q)
-    (rw (← c.find_release-found.ensures) (did_effect img _ c.args.active c.note_acted-noted.result c.after_effect.result c.effect_of.result c.do_action-effect.result _ _ c.requires.tidy c.effect_of.ensures c.do_action-effect.ensures c.after_effect.ensures q))
+    (rw (← c.find_release-found.ensures)
+    (did_effect img _ c.args.active c.note_acted-noted.result c.after_effect.result c.effect_of.result
+    c.do_action-effect.result _ _ c.requires.tidy c.effect_of.ensures c.do_action-effect.ensures c.after_effect.ensures q))

@@ -29,20 +29,29 @@ stacked-long c = search rules
 
 opens : (k : In-Fine) → Opened k.args.image.now k.args.self (length k.args.out.now)
 opens k =
-    opened k.args.image.now k.args.self _ k.judge-judged.result.verdict (states-long (goal.at.In-Fine k).Start) (stacked-long (goal.at.In-Fine k).Start) k.judge-judged.ensures.verdict k.in-Fine.is
+    opened k.args.image.now k.args.self _ k.judge-judged.result.verdict (states-long (goal.at.In-Fine k).Start)
+    (stacked-long (goal.at.In-Fine k).Start) k.judge-judged.ensures.verdict k.in-Fine.is
 
 -- no notes yet
 abbrev begun : After-no_notes-notes → Progress
 begun n = record { active = n.args.self.active; notes = n.no_notes-notes.result }
 
-ready : (n : After-no_notes-notes) (active : Active) (queue : Queue) → Tidy active → Lined queue → Ready n.args.image.now n.judge-judged.result.layers active queue
+ready : (n : After-no_notes-notes) (active : Active) (queue : Queue) → Tidy active → Lined queue
+    → Ready n.args.image.now n.judge-judged.result.layers active queue
 ready n active queue t l =
-    record { sound = (opens (goal.at.After-no_notes-notes n).In-Fine).sound; layers = n.judge-judged.ensures.layers n.in-Fine.is; tidy = t; lined = l }
+    record {
+      sound = (opens (goal.at.After-no_notes-notes n).In-Fine).sound;
+      layers = n.judge-judged.ensures.layers n.in-Fine.is;
+      tidy = t;
+      lined = l;
+    }
 
 pub returns-in_default : goal.returns-in_default
 returns-in_default c =
     let told = c.in_default.is in
-    call_refused c.args.image.now c.args.self c.args.out.now (event (table_of c.args.image.now) c.args.event) c.judge-judged.result.verdict _ _ c.refused_as.result c.judge-judged.ensures.verdict told (c.refused_as.ensures ∙ ap refused_as told)
+    call_refused c.args.image.now c.args.self c.args.out.now
+    (event (table_of c.args.image.now) c.args.event) c.judge-judged.result.verdict _ _ c.refused_as.result
+    c.judge-judged.ensures.verdict told (c.refused_as.ensures ∙ ap refused_as told)
 
 -- there is room in the queue
 pub append-longer-requires : goal.append-longer-requires
@@ -61,19 +70,25 @@ returns-then-not-releases_waiting c =
     let q = list_in c.append-longer.result in
     let long = list_length lay.queue o.lined in
     let stays = did_nothing img lay.active c.no_notes-notes.result q o.tidy in
-    let none : releases e (waiting_of img lay.active.waiting) ≡ false = sym (c.releases_waiting.ensures img) ∙ not-true _ c.if-not-releases_waiting.true-raw in
-    call_finished img lay (begun (goal.at.returns-then-not-releases_waiting c).After-no_notes-notes) c.append-longer.result (event T e) c.args.out.now _ c.answer_of.result o
-    (event_goes img lay c.no_notes-notes.result e c.append-longer.result (begun (goal.at.returns-then-not-releases_waiting c).After-no_notes-notes) (appended e (list_in lay.queue)) still c.no_notes-notes.ensures c.append-longer.ensures.0 c.append-longer.ensures.1
+    let none : releases e (waiting_of img lay.active.waiting) ≡ false = sym (c.releases_waiting.ensures img)
+    ∙ not-true _ c.if-not-releases_waiting.true-raw in
+    call_finished img lay (begun (goal.at.returns-then-not-releases_waiting c).After-no_notes-notes) c.append-longer.result
+    (event T e) c.args.out.now _ c.answer_of.result o
+    (event_goes img lay c.no_notes-notes.result e c.append-longer.result
+    (begun (goal.at.returns-then-not-releases_waiting c).After-no_notes-notes)
+    (appended e (list_in lay.queue)) still c.no_notes-notes.ensures c.append-longer.ensures.0 c.append-longer.ensures.1
     (entered_room T e (list_in lay.queue) (unpack img lay) (omega (arith, long, c.if-queue-lt-QUEUE.true)))
     (did_then img (released T e) stays (did_as img stays (sym (released_no T e (model_of img lay.active q) none)))))
     c.answer_of.ensures
 
 pub tap_released-requires : goal.tap_released-requires
 tap_released-requires c =
-    ready (goal.at.tap_released-requires c).After-no_notes-notes _ _ (opens (goal.at.tap_released-requires c).In-Fine).tidy c.append-longer.ensures.0
+    ready (goal.at.tap_released-requires c).After-no_notes-notes _ _
+    (opens (goal.at.tap_released-requires c).In-Fine).tidy c.append-longer.ensures.0
 
 pub answer_of-requires-then-queue-lt-QUEUE : goal.answer_of-requires-then-queue-lt-QUEUE
-answer_of-requires-then-queue-lt-QUEUE c = (c.tap_released.ensures.tidy, (opens (goal.at.answer_of-requires-then-queue-lt-QUEUE c).In-Fine).roomy)
+answer_of-requires-then-queue-lt-QUEUE c =
+    (c.tap_released.ensures.tidy, (opens (goal.at.answer_of-requires-then-queue-lt-QUEUE c).In-Fine).roomy)
 
 pub returns-then-queue-lt-QUEUE : goal.returns-then-queue-lt-QUEUE
 returns-then-queue-lt-QUEUE c =
@@ -84,9 +99,11 @@ returns-then-queue-lt-QUEUE c =
     let T = table_of img in
     let long = list_length lay.queue o.lined in
     call_finished img lay c.tap_released.result c.append-longer.result (event T e) c.args.out.now _ c.answer_of-then-queue-lt-QUEUE.result o
-    (event_goes img lay c.no_notes-notes.result e c.append-longer.result c.tap_released.result (appended e (list_in lay.queue)) still c.no_notes-notes.ensures c.append-longer.ensures.0 c.append-longer.ensures.1
+    (event_goes img lay c.no_notes-notes.result e c.append-longer.result c.tap_released.result
+    (appended e (list_in lay.queue)) still c.no_notes-notes.ensures c.append-longer.ensures.0 c.append-longer.ensures.1
     (entered_room T e (list_in lay.queue) (unpack img lay) (omega (arith, long, c.if-queue-lt-QUEUE.true)))
-    (did_then img (released T e) (did_nothing img lay.active c.no_notes-notes.result (list_in c.append-longer.result) o.tidy) c.tap_released.ensures))
+    (did_then img (released T e) (did_nothing img lay.active c.no_notes-notes.result
+    (list_in c.append-longer.result) o.tidy) c.tap_released.ensures))
     c.answer_of-then-queue-lt-QUEUE.ensures
 
 -- there is none: the oldest leaves
@@ -104,7 +121,8 @@ append-rest-requires c =
 
 pub overflow-next-requires : goal.overflow-next-requires
 overflow-next-requires c =
-    ready (goal.at.overflow-next-requires c).After-no_notes-notes _ _ (opens (goal.at.overflow-next-requires c).In-Fine).tidy c.append-rest.ensures.0
+    ready (goal.at.overflow-next-requires c).After-no_notes-notes _ _
+    (opens (goal.at.overflow-next-requires c).In-Fine).tidy c.append-rest.ensures.0
 
 pub tap_released-requires-2 : goal.tap_released-requires-2
 tap_released-requires-2 c =
@@ -123,9 +141,14 @@ returns c =
     let q = list_in lay.queue in
     let old = get_or lay.queue.stacked 0 no_stacked in
     let long = list_length lay.queue o.lined in
-    let first : queued_of old ≡ get_or q 0 (queued_of no_stacked) = ap queued_of (sym (get_or-take lay.queue.queued lay.queue.stacked 0 no_stacked (omega (arith, c.if-queue-lt-QUEUE.false)))) ∙ sym (get_or-map queued_of (take lay.queue.queued lay.queue.stacked) 0 no_stacked) in
+    let first : queued_of old ≡ get_or q 0 (queued_of no_stacked) = ap queued_of
+    (sym (get_or-take lay.queue.queued lay.queue.stacked 0 no_stacked (omega (arith, c.if-queue-lt-QUEUE.false)))) ∙ sym
+    (get_or-map queued_of (take lay.queue.queued lay.queue.stacked) 0 no_stacked) in
     call_finished img lay c.tap_released-2.result c.append-rest.result (event T e) c.args.out.now _ c.answer_of-2.result o
-    (event_goes img lay c.no_notes-notes.result e c.append-rest.result c.tap_released-2.result (appended e (drop 1 q)) (overflow T (queued_of old)) c.no_notes-notes.ensures c.append-rest.ensures.0 (c.append-rest.ensures.1 ∙ ap (appended e) c.shift.ensures.1)
-    (entered_full T e q (unpack img lay) (queued_of no_stacked) (omega (arith, long, c.if-queue-lt-QUEUE.false)) ∙ sym (ap (λ (x : Queued). overflow T x (model_of img lay.active (appended e (drop 1 q)))) first))
+    (event_goes img lay c.no_notes-notes.result e c.append-rest.result c.tap_released-2.result (appended e (drop 1 q))
+    (overflow T (queued_of old)) c.no_notes-notes.ensures c.append-rest.ensures.0
+    (c.append-rest.ensures.1 ∙ ap (appended e) c.shift.ensures.1)
+    (entered_full T e q (unpack img lay) (queued_of no_stacked) (omega (arith, long, c.if-queue-lt-QUEUE.false)) ∙ sym
+    (ap (λ (x : Queued). overflow T x (model_of img lay.active (appended e (drop 1 q)))) first))
     (did_then img (released T e) c.overflow-next.ensures c.tap_released-2.ensures))
     c.answer_of-2.ensures

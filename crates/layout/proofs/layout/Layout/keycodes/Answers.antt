@@ -21,12 +21,14 @@ stacked-long c = search rules
 
 opens : (k : In-Fine) → Opened k.args.image.now k.args.self (length k.args.out.now)
 opens k =
-    opened k.args.image.now k.args.self _ k.judge-judged.result.verdict (states-long (goal.at.In-Fine k).Start) (stacked-long (goal.at.In-Fine k).Start) k.judge-judged.ensures.verdict k.in-Fine.is
+    opened k.args.image.now k.args.self _ k.judge-judged.result.verdict (states-long (goal.at.In-Fine k).Start)
+    (stacked-long (goal.at.In-Fine k).Start) k.judge-judged.ensures.verdict k.in-Fine.is
 
 pub returns-in_default : goal.returns-in_default
 returns-in_default c =
     let told = c.in_default.is in
-    let whole = call_refused c.args.image.now c.args.self c.args.out.now still c.judge-judged.result.verdict _ _ c.refused_as.result c.judge-judged.ensures.verdict told (c.refused_as.ensures ∙ ap refused_as told) in
+    let whole = call_refused c.args.image.now c.args.self c.args.out.now still c.judge-judged.result.verdict _ _
+    c.refused_as.result c.judge-judged.ensures.verdict told (c.refused_as.ensures ∙ ap refused_as told) in
     ap (λ (x : Reply). record { told = x.told; layout = c.args.self; buffer = x.buffer }) whole
 
 pub answer_of-answered-requires : goal.answer_of-answered-requires
@@ -39,5 +41,7 @@ returns c =
     let lay = c.args.self in
     let begun : Progress = record { active = lay.active; notes = c.no_notes-notes.result } in
     let q = list_in lay.queue in
-    let whole = call_finished img lay begun lay.queue still c.args.out.now _ c.answer_of-answered.result o (finished img lay c.no_notes-notes.result begun lay.queue q still c.no_notes-notes.ensures o.lined refl (did_nothing img lay.active c.no_notes-notes.result q o.tidy)) c.answer_of-answered.ensures in
+    let whole = call_finished img lay begun lay.queue still c.args.out.now _ c.answer_of-answered.result o
+    (finished img lay c.no_notes-notes.result begun lay.queue q still c.no_notes-notes.ensures o.lined refl
+    (did_nothing img lay.active c.no_notes-notes.result q o.tidy)) c.answer_of-answered.ensures in
     ap (λ (x : Reply). record { told = x.told; layout = lay; buffer = x.buffer }) whole
