@@ -5,7 +5,7 @@
 ghost use Rattle.std.specs.Prelude.{◌≡◌};
 ghost use Rattle.codes.specs.Codes.{legal, modifier, modifier_bit};
 
-#[derive(Drop)]
+#[derive(Clone, Copy)]
 pub struct KeyCode;
 
 impl KeyCode {

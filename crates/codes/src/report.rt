@@ -6,7 +6,7 @@ ghost use Rattle.codes.specs.Report.{free_place, filled, pressed_of, report_of};
 use crate::key_code::KeyCode;
 
 #[repr(C)]
-#[derive(Clone, Copy, Drop)]
+#[derive(Clone, Copy)]
 pub struct KbHidReport {
     pub bytes: [u8; 8],
 }

@@ -22,7 +22,7 @@ use verdicts::making_verdict;
 
 // The accepted picture, the candidate, for how many scans the candidate has stood, and the size. A switch that is down is
 // 1, one that is up 0, row by row; places past the last switch are 0.
-#[derive(Clone, Copy, Drop)]
+#[derive(Clone, Copy)]
 pub struct Debouncer {
     pub cur: [u8; 128],
     pub new: [u8; 128],
@@ -32,38 +32,38 @@ pub struct Debouncer {
     pub columns: usize,
 }
 
-#[derive(Drop)]
+#[derive(Clone, Copy)]
 pub struct Made {
     pub verdict: Verdict,
     pub debouncer: Debouncer,
 }
 
-#[derive(Drop)]
+#[derive(Clone, Copy)]
 pub struct Got {
     pub verdict: Verdict,
     pub picture: [u8; 128],
 }
 
-#[derive(Drop)]
+#[derive(Clone, Copy)]
 pub enum Update {
     Changed(bool),
     Refused(Refusal),
 }
 
-#[derive(Drop)]
+#[derive(Clone, Copy)]
 pub struct Updated {
     pub update: Update,
     pub debouncer: Debouncer,
 }
 
 // How many events were written, three bytes each.
-#[derive(Drop)]
+#[derive(Clone, Copy)]
 pub enum Telling {
     Events(usize),
     Refused(Refusal),
 }
 
-#[derive(Drop)]
+#[derive(Clone, Copy)]
 pub struct Answered {
     pub telling: Telling,
     pub debouncer: Debouncer,
@@ -71,7 +71,7 @@ pub struct Answered {
 
 // The number and the place of an update's answer, as document 01 counts refusals, and its value: 0 and 0 where nothing is
 // refused; no change where something is, at place 0.
-#[derive(Drop)]
+#[derive(Clone, Copy)]
 pub struct Change {
     pub number: u8,
     pub place: usize,
@@ -79,7 +79,7 @@ pub struct Change {
 }
 
 // The same of a telling: no events where it is refused.
-#[derive(Drop)]
+#[derive(Clone, Copy)]
 pub struct Count {
     pub number: u8,
     pub place: usize,

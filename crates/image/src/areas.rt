@@ -11,7 +11,7 @@ use super::words::{shape_of, word_or_zero};
 use refusal::{Refusal, Told, Verdict};
 
 // Which area holds the table in use, with the length of its image; or the operator's refusal.
-#[derive(Drop)]
+#[derive(Clone, Copy)]
 pub enum Source {
     Operator(usize),
     BuiltIn(usize),

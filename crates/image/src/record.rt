@@ -6,7 +6,7 @@ ghost use Rattle.image.specs.Record.{action_of, action_at, cell_at, entry_at, ac
 use super::words::word_or_zero;
 
 // A record's words, by its kind: records are named by their numbers, entries by the first and their count.
-#[derive(Drop)]
+#[derive(Clone, Copy)]
 pub enum Action {
     NoOp,
     Trans,
@@ -19,14 +19,14 @@ pub enum Action {
 }
 
 // The record that a cell names, or no cell.
-#[derive(Drop)]
+#[derive(Clone, Copy)]
 pub enum Cell {
     Record(u16),
     Outside,
 }
 
 // A list entry's word, or no entry.
-#[derive(Drop)]
+#[derive(Clone, Copy)]
 pub enum Entry {
     Word(u16),
     Outside,

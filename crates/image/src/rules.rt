@@ -13,7 +13,7 @@ use super::words::{Shape, shape_of, word};
 use refusal::{Refusal, Told, Verdict};
 
 // The header's numbers of an accepted image, or the first fault and its place.
-#[derive(Drop)]
+#[derive(Clone, Copy)]
 pub enum Checked {
     Accepted(Shape),
     Refused(Refusal, usize),

@@ -20,7 +20,7 @@ use codes::KbHidReport;
 
 // Every value of it is legal.
 #[repr(C)]
-#[derive(Clone, Copy, Drop)]
+#[derive(Clone, Copy)]
 pub struct Keyboard {
     pub report: KbHidReport,
     pub num: bool,
@@ -34,7 +34,7 @@ pub struct Keyboard {
 }
 
 #[repr(C)]
-#[derive(Clone, Copy, Drop)]
+#[derive(Clone, Copy)]
 pub struct Changed {
     pub changed: bool,
     pub keyboard: Keyboard,
@@ -42,14 +42,14 @@ pub struct Changed {
 
 // A refusal's number or 0, and the report; a refused one is zero.
 #[repr(C)]
-#[derive(Clone, Copy, Drop)]
+#[derive(Clone, Copy)]
 pub struct Got {
     pub number: u8,
     pub report: KbHidReport,
 }
 
 #[repr(C)]
-#[derive(Clone, Copy, Drop)]
+#[derive(Clone, Copy)]
 pub struct Fetched {
     pub got: Got,
     pub keyboard: Keyboard,
@@ -57,14 +57,14 @@ pub struct Fetched {
 
 // A refusal's number or 0.
 #[repr(C)]
-#[derive(Clone, Copy, Drop)]
+#[derive(Clone, Copy)]
 pub struct Answered {
     pub number: u8,
     pub keyboard: Keyboard,
 }
 
 #[repr(C)]
-#[derive(Clone, Copy, Drop)]
+#[derive(Clone, Copy)]
 pub struct Clocked {
     pub due: bool,
     pub keyboard: Keyboard,

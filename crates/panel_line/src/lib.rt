@@ -9,7 +9,7 @@ ghost use Rattle.panel_line.specs.Line.{space_at, coords_of, press_at, release_a
 use event::Event;
 use number::{Number, decimal_within};
 
-#[derive(Drop)]
+#[derive(Clone, Copy)]
 pub enum Line {
     Key(Event),
     Tick,

@@ -23,7 +23,7 @@ pub enum Table {
 }
 
 // A table's text into its image, and back.
-#[derive(Clone, Copy, Drop)]
+#[derive(Clone, Copy)]
 pub enum Texts {
     Write,
     Print,

@@ -15,7 +15,7 @@ use image::{Checked, Shape};
 use refusal::{Refusal, Told};
 
 // How many cells differ; or the first refusal, and its place.
-#[derive(Drop)]
+#[derive(Clone, Copy)]
 pub enum Compared {
     Cells(usize),
     Refused(Refusal, usize),

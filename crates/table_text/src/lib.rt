@@ -23,7 +23,7 @@ use read::{Judged, read_text};
 use refusal::{Refusal, Told};
 
 // How many bytes were made; or the first refusal, and its place.
-#[derive(Drop)]
+#[derive(Clone, Copy)]
 pub enum Made {
     Bytes(usize),
     Refused(Refusal, usize),

@@ -6,7 +6,7 @@ ghost use Rattle.text.specs.Inside.{Appends};
 
 // Where reading stands: the input's buffer is taken up to `at` and filled up to `end`; `held` bytes of the line are here,
 // one more than its buffer has where it does not fit. Whether the line has ended, and the input.
-#[derive(Drop)]
+#[derive(Clone, Copy)]
 pub struct Reading {
     pub at: usize,
     pub end: usize,

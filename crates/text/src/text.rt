@@ -3,7 +3,7 @@
 ghost use Rattle.std.specs.Prelude.{◌≡◌, replicate};
 ghost use Rattle.text.specs.Text.{put, put_all, glyph_of, hex_of, place_of, decimal_of};
 
-#[derive(Drop)]
+#[derive(Clone, Copy)]
 pub struct Text {
     pub len: usize,
     pub bytes: [u8; 1024],
