@@ -80,6 +80,7 @@ fn show_report(layout: Layout, keyboard: Keyboard, report: KbHidReport) -> Done
 
 // What a call answered, and the codes that it wrote. A call is not refused here: the image is accepted and the layout is one
 // that calls led to. Were it refused, that would be told, and the keyboard would keep its report.
+#[tactic(auto, unfolding(crate::specs::Line::printed))]
 fn report_after(keyboard: Keyboard, answered: Answered, codes: &[u8]) -> Done
     ensures { result ≡ printed keyboard (handed answered codes.now) }
 {
