@@ -7,6 +7,7 @@ use Rattle.decides.proofs.Both.{both}
 use Rattle.console.specs.Reading.{advanced_reading}
 use Rattle.console.specs.contracts.advance as A
 use Rattle.console.specs.contracts.write_all as B
+use Rattle.console.specs.contracts.put_line as P
 use Rattle.console.specs.contracts.write_line as W
 
 -- what came: how many bytes are here, and the input's buffer
@@ -18,8 +19,12 @@ advance M 𝓤 𝓛 m run =
       only = λ κs a g g' x x' ws ws'. both 𝓤 _ _ _ (λ p q e. (p.is ∙ ap (advanced_reading _ _ _) (ap (λ z. z.0) e) ∙ sym q.is, ap₂ (λ i l. (tt, (i, (l, (tt, tt))))) (ap (λ z. z.1) e) (p.held ∙ sym q.held)));
     }
 
-pub write_all : Decides B.ended (λ M 𝓤 𝓛. B.spec 𝓛) (λ M 𝓤 𝓛. B.clauses 𝓛)
-write_all M 𝓤 𝓛 m r = record { same = refl; free = λ κs a g. refl; only = λ κs a g g' x x' ws ws'. both 𝓤 _ _ _ (λ p q. (p ∙ sym q, refl)) }
+-- what the system answered: that all was written, or why not
+pub write_all : DecidesGiven B.ended _ (λ κs a r ws. r) (λ M 𝓤 𝓛. B.spec 𝓛) (λ M 𝓤 𝓛. B.clauses 𝓛)
+write_all M 𝓤 𝓛 m r = record { same = refl; free = λ κs a g. refl; only = λ κs a g g' x x' ws ws'. both 𝓤 _ _ _ (λ p q e. (e, refl)) }
+
+pub put_line : DecidesGiven P.ended _ (λ κs a r ws. r) (λ M 𝓤 𝓛. P.spec 𝓛) (λ M 𝓤 𝓛. P.clauses 𝓛)
+put_line M 𝓤 𝓛 m r = record { same = refl; free = λ κs a g. refl; only = λ κs a g g' x x' ws ws'. both 𝓤 _ _ _ (λ p q e. (e, refl)) }
 
 pub write_line : Decides W.ended (λ M 𝓤 𝓛. W.spec 𝓛) (λ M 𝓤 𝓛. W.clauses 𝓛)
 write_line M 𝓤 𝓛 m r = record { same = refl; free = λ κs a g. refl; only = λ κs a g g' x x' ws ws'. both 𝓤 _ _ _ (λ p q. (p ∙ sym q, refl)) }

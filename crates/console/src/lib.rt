@@ -2,9 +2,10 @@
 // of reading is promised, and of writing that it returns. Assumes nothing.
 #![tactic(auto)]
 
-ghost use Rattle.std.specs.Prelude.{◌≡◌, ◌≤◌, length};
+ghost use Rattle.std.specs.Prelude.{◌≡◌, ◌≤◌, length, IfOk};
 ghost use Rattle.console.specs.Reading.{Advances};
 
+use std::io;
 use std::io::{Read, Stdin, Stdout, Write};
 use text::{Reading, Text, front, gather};
 
@@ -27,19 +28,26 @@ pub fn advance(stdin: Stdin, input: &mut [u8], line: &mut [u8], reading: Reading
     gather(input, line, reading)
 }
 
-// Writes bytes. Nothing can be promised of it but that it returns; where it fails there is nobody to tell.
-pub fn write_all(stdout: Stdout, bytes: &[u8])
-    ensures { result ≡ tt }
+// Writes bytes, or says why they could not all be written. Nothing more can be promised of it.
+pub fn write_all(stdout: Stdout, bytes: &[u8]) -> io::Result<()>
+    ensures { IfOk result (λ v. v ≡ tt) }
 {
     let mut to = stdout;
-    let _ = to.write_all(bytes);
+    to.write_all(bytes)
 }
 
 // Writes a line, likewise.
-pub fn write_line(stdout: Stdout, text: Text)
-    ensures { result ≡ tt }
+pub fn put_line(stdout: Stdout, text: Text) -> io::Result<()>
+    ensures { IfOk result (λ v. v ≡ tt) }
 {
     let whole = text.put(b'\n');
     let bytes = whole.bytes;
-    write_all(stdout, front(&bytes, whole.len));
+    write_all(stdout, front(&bytes, whole.len))
+}
+
+// Writes a line. Nothing can be promised of it but that it returns; where it fails there is nobody to tell.
+pub fn write_line(stdout: Stdout, text: Text)
+    ensures { result ≡ tt }
+{
+    let _ = put_line(stdout, text);
 }

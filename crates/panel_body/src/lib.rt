@@ -14,11 +14,12 @@ ghost use Rattle.text.specs.Text.{saying, hex_of};
 ghost use Rattle.panel_body.specs.Line.{report_shown, printed, done_for, refusal_line};
 
 use codes::KbHidReport;
-use console::{advance, write_line};
+use console::{advance, put_line};
 use image::Checked;
 use keyboard::Keyboard;
 use layout::{Answered, Layout};
 use panel_line::{Line, read_line};
+use std::io;
 use table::Taken;
 use text::{Reading, Text, front, refused, unread};
 
@@ -124,11 +125,11 @@ fn answer(image: &[u8], panel: Panel, line: &[u8]) -> Done
 }
 
 // The answer to the line that is held.
-fn reply(rt: &HostRuntime, image: &[u8], panel: Panel, line: &[u8]) -> Panel {
+fn reply(rt: &HostRuntime, image: &[u8], panel: Panel, line: &[u8]) -> io::Result<Panel> {
     let done = answer(image, panel, line);
     let text = done.text;
-    write_line(rt.stdout(), text);
-    done.panel
+    put_line(rt.stdout(), text)?;
+    Ok(done.panel)
 }
 
 // A step of reading, and the answer to the line that is held, where it ended.
@@ -138,22 +139,27 @@ fn step(
     input: &mut [u8; INPUT],
     line: &mut [u8; LINE],
     stand: Stand,
-) -> Stand {
+) -> io::Result<Stand> {
     let panel = stand.panel;
     let before = stand.reading;
     let reading = advance(rt.stdin(), input, line, before);
     if !reading.ended {
-        return Stand { panel, reading };
+        return Ok(Stand { panel, reading });
     }
-    Stand {
-        panel: reply(rt, image, panel, front(line, reading.held)),
+    Ok(Stand {
+        panel: reply(rt, image, panel, front(line, reading.held))?,
         reading: reading.answered(),
-    }
+    })
 }
 
-// Answers lines to the end of the input. Nothing says that it has one, so the loop counts its turns down from a number
+// Answers lines to the end of the input, or until one cannot be written. Nothing says that it has one, so the loop counts its turns down from a number
 // that no run uses up.
-fn answer_all(rt: &HostRuntime, image: &[u8], input: &mut [u8; INPUT], line: &mut [u8; LINE]) {
+fn answer_all(
+    rt: &HostRuntime,
+    image: &[u8],
+    input: &mut [u8; INPUT],
+    line: &mut [u8; LINE],
+) -> io::Result<()> {
     let mut stand = Stand {
         panel: Panel {
             layout: Layout::new(),
@@ -164,10 +170,12 @@ fn answer_all(rt: &HostRuntime, image: &[u8], input: &mut [u8; INPUT], line: &mu
     let mut turns = u64::MAX;
     let mut over = false;
     while turns > 0 && !over {
-        stand = step(rt, image, input, line, stand);
-        over = stand.reading.over;
+        stand = step(rt, image, input, line, stand)?;
+        let reading = stand.reading;
+        over = reading.over;
         turns -= 1;
     }
+    Ok(())
 }
 
 // What is printed for an image that the check refuses.
@@ -178,25 +186,27 @@ fn refusal_of(checked: Checked) -> Text
     refused(told.number, told.place)
 }
 
-fn with_image(rt: &HostRuntime, image: &[u8]) {
+fn with_image(rt: &HostRuntime, image: &[u8]) -> io::Result<()> {
     let checked = image::check(image);
     let Checked::Accepted(_) = checked else {
-        write_line(rt.stdout(), refusal_of(checked));
-        return;
+        return put_line(rt.stdout(), refusal_of(checked));
     };
     let mut input = [0u8; INPUT];
     let mut line = [0u8; LINE];
-    answer_all(rt, image, &mut input, &mut line);
+    answer_all(rt, image, &mut input, &mut line)
 }
 
-// The whole program. Nothing can be promised of what it reads and writes: it ends, and is safe.
+// The whole program. Nothing can be promised of what it reads and writes: it ends, and is safe. It ends too
+// where a line cannot be written: there is nobody to tell.
 pub fn run(rt: &HostRuntime)
     ensures { result ≡ tt }
 {
     let mut bytes = [0u8; table::ROOM];
     let taken = table::take(rt, &mut bytes);
     match taken {
-        Taken::Bytes(n) => with_image(rt, front(&bytes, n)),
+        Taken::Bytes(n) => {
+            let _ = with_image(rt, front(&bytes, n));
+        }
         Taken::Nothing => {}
     }
 }

@@ -145,7 +145,7 @@ fn picture(debouncer: Debouncer) -> Text {
 
 // The bytes of so many events in hex; `spilt` where a byte past them was written.
 fn told(telling: Telling, events: &[u8]) -> Text {
-    let count = written(&telling);
+    let count = written(telling);
     if !say::is_filled(events, count) {
         return say::text(b"spilt");
     }
@@ -156,11 +156,11 @@ fn told(telling: Telling, events: &[u8]) -> Text {
 }
 
 // How many bytes a scan may write: three an event, and none where it is refused. No picture has more than 128 events.
-fn written(telling: &Telling) -> usize {
+fn written(telling: Telling) -> usize {
     match telling {
         Telling::Events(count) => {
-            if *count <= 128 {
-                return 3 * *count;
+            if count <= 128 {
+                return 3 * count;
             }
             0
         }

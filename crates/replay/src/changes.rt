@@ -7,9 +7,9 @@ use table_changes::Compared;
 use text::{Text, front};
 
 // How many bytes a call may write: three a cell, of which no table has more than 1,024; none where it is refused.
-fn written(compared: &Compared) -> usize {
+fn written(compared: Compared) -> usize {
     match compared {
-        Compared::Cells(count) => 3 * words::low_word(*count) as usize,
+        Compared::Cells(count) => 3 * words::low_word(count) as usize,
         Compared::Refused(_, _) => 0,
     }
 }
@@ -20,7 +20,7 @@ fn answered(stdout: Stdout, first: &[u8], second: &[u8], out: &mut [u8]) -> Text
     texts::told(
         stdout,
         say::text(b"cells "),
-        written(&compared),
+        written(compared),
         compared.told(),
         out,
     )

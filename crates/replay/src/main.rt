@@ -15,10 +15,11 @@ mod texts;
 mod words;
 
 use commands::{Board, Bounce, Buffer, Call, Command, Part, Table, Texts};
-use console::{advance, write_line};
+use console::{advance, put_line};
 use debounce::Debouncer;
 use keyboard::Keyboard;
 use layout::Layout;
+use std::io;
 use text::{Reading, Text, front};
 use words::Bytes;
 
@@ -197,11 +198,11 @@ fn reply(
     held: usize,
     table: &mut [u8; table::ROOM],
     desk: Desk,
-) -> Desk {
+) -> io::Result<Desk> {
     let done = answer(rt, front(line, held), table, desk);
     let text = done.text;
-    write_line(rt.stdout(), text);
-    done.desk
+    put_line(rt.stdout(), text)?;
+    Ok(done.desk)
 }
 
 // A step of reading, and the answer to the line that is held, where it ended.
@@ -211,27 +212,27 @@ fn step(
     line: &mut [u8; LINE],
     table: &mut [u8; table::ROOM],
     stand: Stand,
-) -> Stand {
+) -> io::Result<Stand> {
     let desk = stand.desk;
     let before = stand.reading;
     let reading = advance(rt.stdin(), input, line, before);
     if !reading.ended {
-        return Stand { desk, reading };
+        return Ok(Stand { desk, reading });
     }
-    Stand {
-        desk: reply(rt, line, reading.held, table, desk),
+    Ok(Stand {
+        desk: reply(rt, line, reading.held, table, desk)?,
         reading: reading.answered(),
-    }
+    })
 }
 
-// Answers lines to the end of the input. Nothing says that it has one, so the loop counts its turns down from a number
+// Answers lines to the end of the input, or until one cannot be written. Nothing says that it has one, so the loop counts its turns down from a number
 // that no run uses up.
 fn run(
     rt: &HostRuntime,
     input: &mut [u8; INPUT],
     line: &mut [u8; LINE],
     table: &mut [u8; table::ROOM],
-) {
+) -> io::Result<()> {
     let mut stand = Stand {
         desk: start(),
         reading: Reading::start(),
@@ -239,15 +240,17 @@ fn run(
     let mut turns = u64::MAX;
     let mut over = false;
     while turns > 0 && !over {
-        stand = step(rt, input, line, table, stand);
-        over = stand.reading.over;
+        stand = step(rt, input, line, table, stand)?;
+        let reading = stand.reading;
+        over = reading.over;
         turns -= 1;
     }
+    Ok(())
 }
 
 fn main(rt: HostRuntime) {
     let mut input = [0u8; INPUT];
     let mut line = [0u8; LINE];
     let mut table = [0u8; table::ROOM];
-    run(&rt, &mut input, &mut line, &mut table);
+    let _ = run(&rt, &mut input, &mut line, &mut table); // where a line cannot be written there is nobody to tell
 }

@@ -13,7 +13,7 @@ use text::{Text, front};
 // Writes a piece of a line, with no newline behind it.
 fn write_piece(stdout: Stdout, text: Text) {
     let bytes = text.bytes;
-    write_all(stdout, front(&bytes, text.len));
+    let _ = write_all(stdout, front(&bytes, text.len)); // the rest of the line fails too, and that is told
 }
 
 // Bytes in hex, `-` for none, behind the answer's first word. Every piece but the last is written, and that one handed
@@ -39,9 +39,9 @@ fn first_word(asked: Texts) -> Text {
 }
 
 // How many bytes a call may write: none where it is refused.
-fn written(made: &Made) -> usize {
+fn written(made: Made) -> usize {
     match made {
-        Made::Bytes(count) => *count,
+        Made::Bytes(count) => count,
         Made::Refused(_, _) => 0,
     }
 }
@@ -69,7 +69,7 @@ fn called(asked: Texts, bytes: &[u8], out: &mut [u8]) -> Made {
 // A call into a lent buffer, and its answer.
 fn answered(stdout: Stdout, asked: Texts, bytes: &[u8], out: &mut [u8]) -> Text {
     let made = called(asked, bytes, out);
-    told(stdout, first_word(asked), written(&made), made.told(), out)
+    told(stdout, first_word(asked), written(made), made.told(), out)
 }
 
 // A call into a buffer of as many bytes as there is room.

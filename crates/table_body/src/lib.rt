@@ -51,7 +51,9 @@ fn refusal_line(told: Told) -> Text
 // What was made, from the buffer's start; or the refusal.
 fn hand_over(stdout: Stdout, made: Made, out: &[u8]) {
     match made {
-        Made::Bytes(n) => write_all(stdout, front(out, n)),
+        Made::Bytes(n) => {
+            let _ = write_all(stdout, front(out, n));
+        }
         Made::Refused(_, _) => write_line(stdout, refusal_line(made.told())),
     }
 }
