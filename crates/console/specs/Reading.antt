@@ -17,9 +17,9 @@ unfoldable pub advanced_line : List ℕ → List ℕ → Reading → List ℕ
 advanced_line input line p = cond (taken p) line (gathered_line input line p)
 
 -- the answer, which tells how many bytes are here, and both buffers at exit
-pub record Advances (input : List ℕ) (p : Reading) (line : List ℕ) (reading : Reading) (input-after line_after : List ℕ) : Type 0 where
+pub record Advances (input : List ℕ) (p : Reading) (line : List ℕ) (reading : Reading) (input_after line_after : List ℕ) : Type 0 where
   pub is : reading ≡ advanced_reading input (length line) p reading.end
   pub held : line_after ≡ advanced_line input line p
   -- a read brings at most what its buffer holds; without one the buffer is as it was
   pub brought : taken p ≡ true → reading.end ≤ length input
-  pub kept : taken p ≡ false → input-after ≡ input
+  pub kept : taken p ≡ false → input_after ≡ input

@@ -3,7 +3,7 @@
 // Assumes nothing.
 ghost use Rattle.std.specs.Prelude.{◌≡◌, ℕ, List};
 ghost use Rattle.layout.specs.Model.{same, with_states, with_waiting};
-ghost use Rattle.layout.specs.Steps.{coord_in, release as releaseOf, current, held};
+ghost use Rattle.layout.specs.Steps.{coord_in, release as release_of, current, held};
 ghost use Rattle.layout.specs.Packed.{states_in, waiting_of};
 ghost use Rattle.layout.specs.Inside.{Tidy, Moves};
 
@@ -78,7 +78,7 @@ pub(crate) fn coord_in(state: State) -> Coord
 // A release drops all states of its coordinates and keeps the others' order.
 pub(crate) fn release(active: Active, coord: Coord) -> Active
     requires { Tidy active }
-    ensures { (img : List ℕ) → Moves img active result (λ l. with_states (releaseOf coord l.states) l) }
+    ensures { (img : List ℕ) → Moves img active result (λ l. with_states (release_of coord l.states) l) }
 {
     let zero = Slot {
         state: State::NormalKey {

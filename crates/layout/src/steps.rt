@@ -3,7 +3,7 @@
 ghost use Rattle.std.specs.Prelude.{◌≡◌, ℕ, List};
 ghost use Rattle.image.specs.Sound.{Sound};
 ghost use Rattle.image.specs.Table.{table_of};
-ghost use Rattle.layout.specs.Steps.{releases, released as releasedOf, overflow as overflowOf};
+ghost use Rattle.layout.specs.Steps.{releases, released as released_of, overflow as overflow_of};
 ghost use Rattle.layout.specs.Packed.{waiting_of, queued_of};
 ghost use Rattle.layout.specs.Inside.{Tidy, Lined, Ready, PressedTo, Steps, setting_of, unstacked, waited_one};
 
@@ -99,7 +99,7 @@ pub(crate) fn overflow(
     oldest: Stacked,
 ) -> Progress
     requires { Ready image.now layers active queue }
-    ensures { Steps image.now active notes result queue (overflowOf (table_of image.now) (queued_of oldest)) }
+    ensures { Steps image.now active notes result queue (overflow_of (table_of image.now) (queued_of oldest)) }
 {
     let waiting = active.waiting;
     let Waiting::On(w) = waiting else {
@@ -142,7 +142,7 @@ pub(crate) fn tap_released(
     event: Event,
 ) -> Progress
     requires { Ready image.now layers active queue }
-    ensures { Steps image.now active notes result queue (releasedOf (table_of image.now) event) }
+    ensures { Steps image.now active notes result queue (released_of (table_of image.now) event) }
 {
     let waiting = active.waiting;
     let Waiting::On(w) = waiting else {

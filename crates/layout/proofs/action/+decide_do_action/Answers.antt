@@ -26,29 +26,29 @@ use Rattle.layout.proofs.action.+decide_do_action.Goals as goal
 use Rattle.layout.proofs.action.+decide_do_action.Goals.{decide-After-settle-quiet}
 
 -- a record that is no HoldTap has no hold and no tap
-no-hold : (img : List ℕ) (n : ℕ) (t : ℕ → Action) (a : Coded) → ((w k p : ℕ) → a ≡ code.HoldTap w k p → ⊥)
+no_hold : (img : List ℕ) (n : ℕ) (t : ℕ → Action) (a : Coded) → ((w k p : ℕ) → a ≡ code.HoldTap w k p → ⊥)
     → (hold_of (meaning img t n a) ≡ NoOp) × (tap_of (meaning img t n a) ≡ NoOp)
 unfolding meaning
-no-hold img n t code.NoOp h = (refl, refl)
-no-hold img n t code.Trans h = (refl, refl)
-no-hold img n t (code.KeyCode k) h = (refl, refl)
-no-hold img n t (code.MultipleKeyCodes f c) h = (refl, refl)
-no-hold img n t (code.MultipleActions f c) h = (refl, refl)
-no-hold img n t (code.Layer v) h = (refl, refl)
-no-hold img n t (code.DefaultLayer v) h = (refl, refl)
-no-hold img n t (code.HoldTap w k p) h = absurd (h w k p refl)
+no_hold img n t code.NoOp h = (refl, refl)
+no_hold img n t code.Trans h = (refl, refl)
+no_hold img n t (code.KeyCode k) h = (refl, refl)
+no_hold img n t (code.MultipleKeyCodes f c) h = (refl, refl)
+no_hold img n t (code.MultipleActions f c) h = (refl, refl)
+no_hold img n t (code.Layer v) h = (refl, refl)
+no_hold img n t (code.DefaultLayer v) h = (refl, refl)
+no_hold img n t (code.HoldTap w k p) h = absurd (h w k p refl)
 
 neither : (way : Way) → chosen way NoOp NoOp ≡ NoOp
 neither Tap = refl
 neither Hold = refl
 
 -- a hold-tap that a queued release decides at once
-begins-now : (way : Way) (h p : Action) (n : ℕ) (c : Coord) (f : Found) (l w : Model)
+begins_now : (way : Way) (h p : Action) (n : ℕ) (c : Coord) (f : Found) (l w : Model)
     → marked (Begun c) (decided way h p n c f l)
     ≡ begins (AtOnce way) c w (do_action p n c 0 f (with_waiting Idle l)) (do_action h n c 0 f (with_waiting Idle l))
 unfolding decided
-begins-now Tap h p n c f l w = refl
-begins-now Hold h p n c f l w = refl
+begins_now Tap h p n c f l w = refl
+begins_now Hold h p n c f l w = refl
 
 -- the effect that is settled, with nothing added yet
 settled : (t : ℕ) (c : decide-After-settle-quiet t)
@@ -63,7 +63,7 @@ decide-returns-in_default t c =
     let a = c.args in
     let img = a.image.now in
     let m = tells img a.n {r = c.action_at.result} c.requires.0 c.action_at.ensures refl in
-    let none = no-hold img a.n (tree img) c.action_at.result c.in_default.not-HoldTap in
+    let none = no_hold img a.n (tree img) c.action_at.result c.in_default.not-HoldTap in
     effected_as img a.setting.coord (settled t (goal.at.decide-returns-in_default t c).After-settle-quiet)
     (λ x q. rw (m.is, none.0, none.1, neither a.way))
 
@@ -217,4 +217,4 @@ do_action-returns-in-At t c =
     let k = c.args.setting.coord in
     let m = tells img c.args.n c.requires.0 c.action_at.ensures c.in-HoldTap.is in
     effected_as img k (effected_begun img k k c.decide.ensures)
-    (λ x q. rw (c.queued_way.ensures, c.in-At.is, m.is) (begins-now _ _ _ _ _ _ _ _))
+    (λ x q. rw (c.queued_way.ensures, c.in-At.is, m.is) (begins_now _ _ _ _ _ _ _ _))

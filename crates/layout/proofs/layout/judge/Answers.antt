@@ -19,11 +19,11 @@ use Rattle.layout.proofs.layout.judge.Goals as goal
 use Rattle.layout.proofs.layout.judge.Goals.{After-check-checked}
 
 -- the check's answer, by what is said of it
-checked-is : (k : After-check-checked) (x : Checked) → k.check-checked.result ≡ x → check_of k.args.image.now ≡ x
-checked-is k x e = sym (said_one k.check-checked.result _ k.check-checked.ensures) ∙ e
+checked_is : (k : After-check-checked) (x : Checked) → k.check-checked.result ≡ x → check_of k.args.image.now ≡ x
+checked_is k x e = sym (said_one k.check-checked.result _ k.check-checked.ensures) ∙ e
 
-refused-or-fine : {A : Type 0} (v : Verdict) (r : Refusal) (p : ℕ) → v ≡ Refused r p → v ≡ Fine → A
-refused-or-fine v r p e f =
+refused_or_fine : {A : Type 0} (v : Verdict) (r : Refusal) (p : ℕ) → v ≡ Refused r p → v ≡ Fine → A
+refused_or_fine v r p e f =
     let both : Refused r p ≡ Fine = sym e ∙ f in
     let z : ◌≡◌ {A = ℕ} 0 1 = cc in
     absurd (omega arith)
@@ -33,15 +33,15 @@ unfolding judged_of or_else
 returns-in_default c =
     let told = c.in_default.is in
     let is = c.verdict_in.ensures ∙ ap verdict_in told in
-    record { verdict = is ∙ rw (checked-is (goal.at.returns-in_default c).After-check-checked _ told); layers = refused-or-fine _ _ _ is }
+    record { verdict = is ∙ rw (checked_is (goal.at.returns-in_default c).After-check-checked _ told); layers = refused_or_fine _ _ _ is }
 
 layers : (k : After-check-checked) (s : Shape) → k.check-checked.result ≡ Accepted s → s.layers ≡ layers_of k.args.image.now
-layers k s e = ap (λ (x : Shape). x.layers) (accepted _ _ (checked-is k _ e)).0
+layers k s e = ap (λ (x : Shape). x.layers) (accepted _ _ (checked_is k _ e)).0
 
 pub state_good-requires : goal.state_good-requires
 state_good-requires c =
     let k = (goal.at.state_good-requires c).After-check-checked in
-    ((accepted _ _ (checked-is k _ c.in-Accepted.is)).1, layers k _ c.in-Accepted.is)
+    ((accepted _ _ (checked_is k _ c.in-Accepted.is)).1, layers k _ c.in-Accepted.is)
 
 pub returns-then-not-state_good : goal.returns-then-not-state_good
 unfolding judged_of or_else rule
@@ -49,7 +49,7 @@ returns-then-not-state_good c =
     let k = (goal.at.returns-then-not-state_good c).After-check-checked in
     let good = sym c.state_good.ensures in
     record {
-      verdict = rw (checked-is k _ c.in-Accepted.is, good ∙ not-true _ c.if-not-state_good.true-raw);
+      verdict = rw (checked_is k _ c.in-Accepted.is, good ∙ not-true _ c.if-not-state_good.true-raw);
       layers = λ fine. layers k _ c.in-Accepted.is;
     }
 
@@ -59,7 +59,7 @@ returns-then-room-lt-STATES c =
     let k = (goal.at.returns-then-room-lt-STATES c).After-check-checked in
     let good = sym c.state_good.ensures in
     record {
-      verdict = rw (checked-is k _ c.in-Accepted.is, good ∙ not-false _ c.if-not-state_good.false-raw, lt-leb _ _ c.if-room-lt-STATES.true);
+      verdict = rw (checked_is k _ c.in-Accepted.is, good ∙ not-false _ c.if-not-state_good.false-raw, lt-leb _ _ c.if-room-lt-STATES.true);
       layers = λ fine. layers k _ c.in-Accepted.is;
     }
 
@@ -70,7 +70,7 @@ returns c =
     let good = sym c.state_good.ensures in
     record {
       verdict = rw (
-        checked-is k _ c.in-Accepted.is,
+        checked_is k _ c.in-Accepted.is,
         good ∙ not-false _ c.if-not-state_good.false-raw,
         le-leb _ _ c.if-room-lt-STATES.false,
       );

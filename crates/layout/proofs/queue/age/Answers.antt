@@ -12,8 +12,8 @@ use Rattle.layout.proofs.Parts.{lined_length, new_queue, older_in, older_list}
 use Rattle.layout.proofs.queue.age.Goals as goal
 
 -- one older is that of its model
-older-is : (s t : Stacked) → queued_of t ≡ older_one (queued_of s) → t ≡ older_in s
-older-is s t e = ap stacked_of e
+older_is : (s t : Stacked) → queued_of t ≡ older_one (queued_of s) → t ≡ older_in s
+older_is s t e = ap stacked_of e
 
 pub loop-k-init : goal.loop-k-init
 loop-k-init c = (omega arith, refl, refl)
@@ -23,7 +23,7 @@ loop-k-preserved c =
     let long = lined_length c.args.queue c.requires in (
       omega arith,
       c.loop-k.invariant.1,
-      rw (older-is _ _ c.one_older.ensures)
+      rw (older_is _ _ c.one_older.ensures)
           (map_on older_in c.args.queue.stacked c.loop-k.out.stacked c.loop-k.k no_stacked (omega (arith, c.requires.few))
           c.loop-k.invariant.2),
     )

@@ -29,12 +29,12 @@ waits : (c : Else-not-waiting_good) → waiting_good c.args.image.now c.args.act
 waits c = sym c.waiting_good.ensures ∙ not-false _ c.if-not-waiting_good.false-raw
 
 -- all of them but the unused places
-all-but-unused : (c : Else-not-waiting_good) (rest : Bool)
+all_but_unused : (c : Else-not-waiting_good) (rest : Bool)
     → (leb c.args.active.len 64 && (leb c.args.queue.queued 16 &&
     (every legal_slot (take c.args.active.len c.args.active.states) &&
     (ltb c.args.active.default_layer (layers_of c.args.image.now) &&
     (falling (list_in c.args.queue) && (waiting_good c.args.image.now c.args.active.waiting && rest)))))) ≡ rest
-all-but-unused c rest =
+all_but_unused c rest =
     rw (
       (sized (goal.at.Else-not-waiting_good c).Else-queue-gt-QUEUE).0,
       (sized (goal.at.Else-not-waiting_good c).Else-queue-gt-QUEUE).1,
@@ -104,11 +104,11 @@ returns-then-not-waiting_good c =
 pub returns-then-states_unused : goal.returns-then-states_unused
 unfolding state_good
 returns-then-states_unused c =
-    sym (all-but-unused (goal.at.returns-then-states_unused c).Else-not-waiting_good _ ∙ rw
+    sym (all_but_unused (goal.at.returns-then-states_unused c).Else-not-waiting_good _ ∙ rw
     (sym c.states_unused.ensures ∙ c.if-states_unused.true) (sym c.events_unused.ensures))
 
 pub returns-else-states_unused : goal.returns-else-states_unused
 unfolding state_good
 returns-else-states_unused c =
-    sym (all-but-unused (goal.at.returns-else-states_unused c).Else-not-waiting_good _ ∙ rw
+    sym (all_but_unused (goal.at.returns-else-states_unused c).Else-not-waiting_good _ ∙ rw
     (sym c.states_unused.ensures ∙ c.if-states_unused.false) (sym c.if-states_unused.false))

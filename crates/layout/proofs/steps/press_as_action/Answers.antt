@@ -15,17 +15,17 @@ use Rattle.layout.specs.Steps.{or_default}
 use Rattle.layout.proofs.steps.press_as_action.Goals as goal
 
 -- a record that is no Trans is not looked up again
-not-trans : (img : List ℕ) (n : ℕ) (t : ℕ → Action) (a : Coded) (b : Action) → (a ≡ code.Trans → ⊥)
+not_trans : (img : List ℕ) (n : ℕ) (t : ℕ → Action) (a : Coded) (b : Action) → (a ≡ code.Trans → ⊥)
     → or_default (meaning img t n a) b ≡ meaning img t n a
 unfolding meaning
-not-trans img n t code.NoOp b h = refl
-not-trans img n t code.Trans b h = absurd (h refl)
-not-trans img n t (code.KeyCode k) b h = refl
-not-trans img n t (code.MultipleKeyCodes f c) b h = refl
-not-trans img n t (code.MultipleActions f c) b h = refl
-not-trans img n t (code.Layer v) b h = refl
-not-trans img n t (code.DefaultLayer v) b h = refl
-not-trans img n t (code.HoldTap w k p) b h = refl
+not_trans img n t code.NoOp b h = refl
+not_trans img n t code.Trans b h = absurd (h refl)
+not_trans img n t (code.KeyCode k) b h = refl
+not_trans img n t (code.MultipleKeyCodes f c) b h = refl
+not_trans img n t (code.MultipleActions f c) b h = refl
+not_trans img n t (code.Layer v) b h = refl
+not_trans img n t (code.DefaultLayer v) b h = refl
+not_trans img n t (code.HoldTap w k p) b h = refl
 
 pub returns-in_default : goal.returns-in_default
 unfolding tree_in
@@ -50,4 +50,4 @@ returns-in_default-action_at c =
     let m = tells img _ {r = c.action_at.result} c.requires.0 c.action_at.ensures refl in
     λ q. press_own img c.args.coord (model_of img c.args.active q) _ _ c.current_layer.ensures
     (cell_one _ _ c.cell_at.ensures) _ c.in-Record.is
-    (rw m.is (not-trans img _ (tree img) _ _ c.in_default-action_at.not-Trans))
+    (rw m.is (not_trans img _ (tree img) _ _ c.in_default-action_at.not-Trans))

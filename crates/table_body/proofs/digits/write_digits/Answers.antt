@@ -12,10 +12,10 @@ use Rattle.table_body.proofs.Powers.{last_digit}
 use Rattle.table_body.proofs.digits.write_digits.Goals as goal
 
 -- after a store at j, the list from j on begins with what was stored
-drop-set : (t : List ℕ) (j g : ℕ) → j < length t → drop j (set t j g) ≡ g ∷ drop (suc j) t
-drop-set [] j g h = absurd (not-suc-le-zero h)
-drop-set (x ∷ xs) zero g h = refl
-drop-set (x ∷ xs) (suc j) g h = drop-set xs j g (le_of_suc-le-suc h)
+drop_set : (t : List ℕ) (j g : ℕ) → j < length t → drop j (set t j g) ≡ g ∷ drop (suc j) t
+drop_set [] j g h = absurd (not-suc-le-zero h)
+drop_set (x ∷ xs) zero g h = refl
+drop_set (x ∷ xs) (suc j) g h = drop_set xs j g (le_of_suc-le-suc h)
 
 -- a turn moves the last of the digits that are still to write to the front of those that are written
 digits_step : (b i k rest g : ℕ) (out : List ℕ) → 0 < i → i ≤ k → k ≤ length out → g ≡ digit_ascii (rest % b)
@@ -27,7 +27,7 @@ digits_step b (suc j) k rest g out some h room e =
     let within : j < length (take k out) = subst (λ (n : ℕ). j < n) (sym (length-take-le k out room)) h in
     ap (λ (m : ℕ). last_digits b m (rest / b) ++ slice m k (set out m g)) (sub-one (suc j))
     ∙ ap (λ (l : List ℕ). todo ++ drop j l) (take-set-lt k out j g h)
-    ∙ ap (λ (l : List ℕ). todo ++ l) (drop-set (take k out) j g within)
+    ∙ ap (λ (l : List ℕ). todo ++ l) (drop_set (take k out) j g within)
     ∙ ap (λ (x : ℕ). todo ++ x ∷ done) e
     ∙ sym (append_snoc todo (digit_ascii (rest % b)) done)
 

@@ -37,10 +37,10 @@ returns-then-one-eq-CODES t c =
     ∙ sym (same_codes _ _ _ _ _ _ c.node_of-one.ensures c.node_of-other.ensures c.if-one-other.false c.if-one-other-2.false c.if-one-eq-CODES.true)
 
 -- where the words number records, the test goes by these
-by-named : (t : ℕ) (c : Else-one-eq-CODES t) → let a = c.args in let x = c.node_of-one.result in
+by_named : (t : ℕ) (c : Else-one-eq-CODES t) → let a = c.args in let x = c.node_of-one.result in
     trees.same (tree a.first.now a.m) (tree a.second.now a.n)
     ≡ trees.same_all (named (tree a.first.now) (words_from a.first.now x.at x.count)) (named (tree a.second.now) (words_from a.second.now c.node_of-other.result.at x.count))
-by-named t c =
+by_named t c =
     let a = c.args in
     let x = c.node_of-one.result in
     same_named _ _ _ _ _ _ c.node_of-one.ensures c.node_of-other.ensures c.if-one-other.false c.if-one-other-2.false c.if-one-eq-CODES.false
@@ -51,7 +51,7 @@ loop-i-init t c =
     let a = c.args in
     let x = c.node_of-one.result in
     rw (words_all a.first.now x.at x.count, words_all a.second.now c.node_of-other.result.at x.count)
-    (omega arith, c.node_of-one.ensures.lower (ne_eqb _ _ c.if-one-eq-CODES.false), by-named t (goal.at.loop-i-init t c).Else-one-eq-CODES)
+    (omega arith, c.node_of-one.ensures.lower (ne_eqb _ _ c.if-one-eq-CODES.false), by_named t (goal.at.loop-i-init t c).Else-one-eq-CODES)
 
 pub overflow_add-one : goal.overflow_add-one
 overflow_add-one t c = omega (arith, c.node_of-one.ensures.near, c.loop-i-test.true)

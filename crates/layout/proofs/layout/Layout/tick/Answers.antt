@@ -21,16 +21,16 @@ use Rattle.layout.proofs.layout.Layout.tick.Goals as goal
 use Rattle.layout.proofs.layout.Layout.tick.Goals.{After-judge-judged, After-no_notes-notes, In-Fine, Start}
 
 -- every array has its length
-states-long : (c : Start) → length c.args.self.active.states ≡ 64
-states-long c = search rules
+states_long : (c : Start) → length c.args.self.active.states ≡ 64
+states_long c = search rules
 
-stacked-long : (c : Start) → length c.args.self.queue.stacked ≡ 16
-stacked-long c = search rules
+stacked_long : (c : Start) → length c.args.self.queue.stacked ≡ 16
+stacked_long c = search rules
 
 opens : (k : In-Fine) → Opened k.args.image.now k.args.self (length k.args.out.now)
 opens k =
-    opened k.args.image.now k.args.self _ k.judge-judged.result.verdict (states-long (goal.at.In-Fine k).Start)
-    (stacked-long (goal.at.In-Fine k).Start) k.judge-judged.ensures.verdict k.in-Fine.is
+    opened k.args.image.now k.args.self _ k.judge-judged.result.verdict (states_long (goal.at.In-Fine k).Start)
+    (stacked_long (goal.at.In-Fine k).Start) k.judge-judged.ensures.verdict k.in-Fine.is
 
 -- no notes yet
 abbrev begun : After-no_notes-notes → Progress
