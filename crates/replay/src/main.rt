@@ -225,8 +225,8 @@ fn step(
     })
 }
 
-// Answers lines to the end of the input, or until one cannot be written. Nothing says that it has one, so the loop counts its turns down from a number
-// that no run uses up.
+// Answers lines to the end of the input, or until one cannot be written. Nothing says that the input has an end, so the loop
+// counts its turns down from a number that no run uses up.
 fn run(
     rt: &HostRuntime,
     input: &mut [u8; INPUT],
