@@ -19,7 +19,7 @@ advance M 𝓤 𝓛 m run =
       only = λ κs a g g' x x' ws ws'. both 𝓤 _ _ _ (λ p q e. (p.is ∙ ap (advanced_reading _ _ _) (ap (λ z. z.0) e) ∙ sym q.is, ap₂ (λ i l. (tt, (i, (l, (tt, tt))))) (ap (λ z. z.1) e) (p.held ∙ sym q.held)));
     }
 
--- what the system answered: that all was written, or why not
+-- once the answer is given nothing is left to decide: of a write no more can be said
 pub write_all : DecidesGiven B.ended _ (λ κs a r ws. r) (λ M 𝓤 𝓛. B.spec 𝓛) (λ M 𝓤 𝓛. B.clauses 𝓛)
 write_all M 𝓤 𝓛 m r = record { same = refl; free = λ κs a g. refl; only = λ κs a g g' x x' ws ws'. both 𝓤 _ _ _ (λ p q e. (e, refl)) }
 

@@ -28,7 +28,8 @@ pub fn advance(stdin: Stdin, input: &mut [u8], line: &mut [u8], reading: Reading
     gather(input, line, reading)
 }
 
-// Writes bytes, or says why they could not all be written. Nothing more can be promised of it.
+// Writes bytes, or says why they could not all be written. Nothing can be promised of it but that it returns: its clause says
+// no more, since () is one value.
 pub fn write_all(stdout: Stdout, bytes: &[u8]) -> io::Result<()>
     ensures { IfOk result (λ v. v ≡ tt) }
 {
