@@ -1,4 +1,4 @@
--- A verdict is known by its number and its place. Assumes nothing.
+-- An answer is known by what document 01 says of it: its number, its place and its values. Assumes nothing.
 use Prim.Native.Nat.{ℕ}
 use mathlib.Core.Path.{◌≡◌, refl, ap, sym, ◌∙◌}
 use mathlib.Core.Bool.{false, cond}
@@ -6,11 +6,12 @@ use mathlib.Core.List.{[], ◌∷◌}
 use lib.Dec.{eqb}
 use lib.ListN.{get_or}
 use Rattle.refusal.specs.Number.{number_of}
+use Rattle.std.specs.Prelude.{Result, Ok, Err}
+use Rattle.refusal.specs.Verdict.{refused}
 use Rattle.refusal.specs.Said.{Said, said}
+use Rattle.refusal.specs.declared.Fault.{Fault}
 use Rattle.refusal.specs.declared.Refusal.{Refusal}
 use Rattle.refusal.specs.declared.Refusal.TheVariants.{Short, Header, Length, Cell, Record, Code, Child, Nested, Weight, Scan, Bounce, Room, State, Request, Text, Shape}
-use Rattle.refusal.specs.declared.Verdict.{Verdict}
-use Rattle.refusal.specs.declared.Verdict.TheVariants.{Fine, Refused}
 
 -- the refusal of a number: number 0, which none has, gives one too
 abbrev pub refusal_of : ℕ → Refusal
@@ -55,26 +56,13 @@ number_some Request = refl
 number_some Text = refl
 number_some Shape = refl
 
--- an answer that is an enum with a case for its values and one for a refusal: what is said of it gives it back
-abbrev pub answer_back : {A X : Type 0} → (A → X) → (Refusal → ℕ → X) → Said A → X
-answer_back good refused s = cond (eqb s.number 0) (good s.values) (refused (refusal_of s.number) s.place)
+-- what is said of an answer gives it back
+abbrev answer_back : {A : Type 0} → Said A → Result A Fault
+answer_back t = cond (eqb t.number 0) (Ok t.values) (refused (refusal_of t.number) t.place)
 
-pub refused_back : {A X : Type 0} (good : A → X) (refused : Refusal → ℕ → X) (r : Refusal) (p : ℕ) (none : A)
-    → answer_back good refused (said (Refused r p) none) ≡ refused r p
-refused_back good refused r p none = rw (number_some r, number_back r)
+answer_known : {A : Type 0} (none : A) (x : Result A Fault) → answer_back (said none x) ≡ x
+answer_known none (Ok values) = refl
+answer_known none (Err f) = rw (number_some f.refusal, number_back f.refusal)
 
--- of a verdict with values beside it, both
-abbrev verdict_back : {A : Type 0} → Said A → Verdict
-verdict_back s = answer_back (λ v. Fine) Refused s
-
-verdict_back_lem : {A : Type 0} (v : Verdict) (a : A) → verdict_back (said v a) ≡ v
-verdict_back_lem Fine a = refl
-verdict_back_lem (Refused r p) a = refused_back (λ v. Fine) Refused r p a
-
-pub values_back : {A : Type 0} (v : Verdict) (a : A) → (said v a).values ≡ a
-values_back Fine a = refl
-values_back (Refused r p) a = refl
-
-pub said_one : {A : Type 0} (v w : Verdict) (a b : A) → said v a ≡ said w b → (v ≡ w) × (a ≡ b)
-said_one v w a b e =
-    (sym (verdict_back_lem v a) ∙ ap verdict_back e ∙ verdict_back_lem w b, sym (values_back v a) ∙ ap (λ s. s.values) e ∙ values_back w b)
+pub said_one : {A : Type 0} (none : A) (x y : Result A Fault) → said none x ≡ said none y → x ≡ y
+said_one none x y e = sym (answer_known none x) ∙ ap answer_back e ∙ answer_known none y

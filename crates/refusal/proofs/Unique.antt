@@ -3,10 +3,10 @@ use mathlib.Core.Path.{refl, ◌∙◌, sym}
 use Rattle.decides.specs.Decides.{Decides}
 use Rattle.decides.proofs.Both.{both}
 use Rattle.refusal.specs.contracts.Refusal.number as N
-use Rattle.refusal.specs.contracts.Verdict.told as T
+use Rattle.refusal.specs.contracts.rule as R
 
 pub number : Decides N.ended (λ M 𝓤 𝓛. N.spec 𝓛) (λ M 𝓤 𝓛. N.clauses 𝓛)
 number M 𝓤 𝓛 m r = record { same = refl; free = λ κs a g. refl; only = λ κs a g g' x x' ws ws'. both 𝓤 _ _ _ (λ p q. (p ∙ sym q, refl)) }
 
-pub told : Decides T.ended (λ M 𝓤 𝓛. T.spec 𝓛) (λ M 𝓤 𝓛. T.clauses 𝓛)
-told M 𝓤 𝓛 m r = record { same = refl; free = λ κs a g. refl; only = λ κs a g g' x x' ws ws'. both 𝓤 _ _ _ (λ p q. (p ∙ sym q, refl)) }
+pub rule : Decides R.ended (λ M 𝓤 𝓛. R.spec 𝓛) (λ M 𝓤 𝓛. R.clauses 𝓛)
+rule M 𝓤 𝓛 m r = record { same = refl; free = λ κs a g. refl; only = λ κs a g g' x x' ws ws'. both 𝓤 _ _ _ (λ p q. (p ∙ sym q, refl)) }

@@ -4,14 +4,14 @@ use mathlib.Core.Bool.{Bool, true, false}
 use Prim.Native.Nat.{ℕ, zero, suc, ◌+◌, ◌-◌, ◌<◌, ◌≤◌}
 use native.Mathlib.Nat.{le_of_suc-le-suc, not-suc-le-zero}
 use native.Mathlib.Omega.{arith}
-use Rattle.refusal.specs.Verdict.{rule, or_else, first_fault}
+use Rattle.std.specs.Prelude.{Ok, Err}
+use Rattle.refusal.specs.Verdict.{Verdict, fine, refused, rule, or_else, first_fault}
 use Rattle.refusal.specs.declared.Refusal.{Refusal}
-use Rattle.refusal.specs.declared.Verdict.{Verdict}
-use Rattle.refusal.specs.declared.Verdict.TheVariants.{Fine, Refused}
+use Rattle.refusal.specs.declared.Fault.{Fault}
 
 -- a rule: broken, kept, and what it says of the rest that there is no fault
 module _ (t : Bool) (r : Refusal) (p : ℕ) (rest : Verdict) where
-  pub rule_no : t ≡ false → Refused r p ≡ rule t r p rest
+  pub rule_no : t ≡ false → refused r p ≡ rule t r p rest
   unfolding rule
   rule_no e = rw e
 
@@ -19,7 +19,7 @@ module _ (t : Bool) (r : Refusal) (p : ℕ) (rest : Verdict) where
   unfolding rule
   rule_yes e f = rw e f
 
-pub rule_fine : (t : Bool) (r : Refusal) (p : ℕ) (rest : Verdict) → rule t r p rest ≡ Fine → (t ≡ true) × (rest ≡ Fine)
+pub rule_fine : (t : Bool) (r : Refusal) (p : ℕ) (rest : Verdict) → rule t r p rest ≡ fine → (t ≡ true) × (rest ≡ fine)
 unfolding rule
 rule_fine true r p rest e = (refl, e)
 rule_fine false r p rest e = (cc, cc)
@@ -31,41 +31,41 @@ rule_with true r p x y f = f refl
 rule_with false r p x y f = refl
 
 -- the first fault of two
-pub or_stop : (f g : Verdict) (r : Refusal) (p : ℕ) → f ≡ Refused r p → f ≡ or_else f g
+pub or_stop : (f g : Verdict) (r : Refusal) (p : ℕ) → f ≡ refused r p → f ≡ or_else f g
 unfolding or_else
 or_stop f g r p e = rw e
 
-pub or_on : (f g : Verdict) → f ≡ Fine → or_else f g ≡ g
+pub or_on : (f g : Verdict) → f ≡ fine → or_else f g ≡ g
 unfolding or_else
 or_on f g e = rw e
 
-pub or_fine : (f g : Verdict) → or_else f g ≡ Fine → (f ≡ Fine) × (g ≡ Fine)
+pub or_fine : (f g : Verdict) → or_else f g ≡ fine → (f ≡ fine) × (g ≡ fine)
 unfolding or_else
-or_fine Fine g e = (refl, e)
-or_fine (Refused r p) g e = (cc, cc)
+or_fine (Ok u) g e = (refl, e)
+or_fine (Err f) g e = (cc, cc)
 
 -- a loop that looks for the first fault: it goes on, it stops, it ends
 module _ (f : ℕ → Verdict) (i n : ℕ) where
-  pub fault_on : i < n → f i ≡ Fine → first_fault f i (n - i) ≡ first_fault f (i + 1) (n - (i + 1))
+  pub fault_on : i < n → f i ≡ fine → first_fault f i (n - i) ≡ first_fault f (i + 1) (n - (i + 1))
   unfolding first_fault or_else
   fault_on h e =
       let k : n - i ≡ suc (n - (i + 1)) = omega arith in
       rw (k, e)
 
-  pub fault_here : (r : Refusal) (p : ℕ) → i < n → f i ≡ Refused r p → first_fault f i (n - i) ≡ Refused r p
+  pub fault_here : (r : Refusal) (p : ℕ) → i < n → f i ≡ refused r p → first_fault f i (n - i) ≡ refused r p
   unfolding first_fault or_else
   fault_here r p h e =
       let k : n - i ≡ suc (n - (i + 1)) = omega arith in
       rw (k, e)
 
-  pub fault_none : n ≤ i → first_fault f i (n - i) ≡ Fine
+  pub fault_none : n ≤ i → first_fault f i (n - i) ≡ fine
   unfolding first_fault
   fault_none h =
       let k : n - i ≡ 0 = omega arith in
       rw k
 
 -- no fault among n places from 0 on: none at any of them
-fine_at : (f : ℕ → Verdict) (i n : ℕ) → first_fault f i n ≡ Fine → (k : ℕ) → k < n → f (i + k) ≡ Fine
+fine_at : (f : ℕ → Verdict) (i n : ℕ) → first_fault f i n ≡ fine → (k : ℕ) → k < n → f (i + k) ≡ fine
 unfolding first_fault
 fine_at f i zero e k h = absurd (not-suc-le-zero h)
 fine_at f i (suc n) e zero h =
@@ -75,7 +75,7 @@ fine_at f i (suc n) e (suc k) h =
     let s : i + suc k ≡ i + 1 + k = omega arith in
     rw s (fine_at f (i + 1) n (or_fine (f i) _ e).1 k (le_of_suc-le-suc h))
 
-pub fine_all : (f : ℕ → Verdict) (n : ℕ) → first_fault f 0 n ≡ Fine → (k : ℕ) → k < n → f k ≡ Fine
+pub fine_all : (f : ℕ → Verdict) (n : ℕ) → first_fault f 0 n ≡ fine → (k : ℕ) → k < n → f k ≡ fine
 fine_all f n e k h =
     let s : 0 + k ≡ k = omega arith in
     rw s at (fine_at f 0 n e k h)

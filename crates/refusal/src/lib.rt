@@ -1,16 +1,17 @@
-// The refusals of documents 01 and 02, each under the name that the paper gives it; and a verdict, that nothing is refused
-// or what is and where. `specs/Number.antt` has the numbers, `specs/Verdict.antt` the order in which rules are asked for,
-// and `specs/Said.antt` what the paper says of an answer.
+// The refusals of documents 01 and 02, each under the name that the paper gives it; a fault, which is a refusal and its place;
+// and a rule, which is kept or refused. `specs/Number.antt` has the numbers, `specs/Verdict.antt` the order in which rules are
+// asked for, and `specs/Said.antt` what the paper says of an answer.
 // Assumes nothing.
 #![tactic(auto)]
 
 ghost use Rattle.std.specs.Prelude.{◌≡◌};
 ghost use Rattle.refusal.specs.Number.{number_of};
-ghost use Rattle.refusal.specs.Said.{told_of};
+ghost use Rattle.refusal.specs.Verdict.{kept_or};
 
-#[derive(Clone, Copy)]
+// Each has the paper's number.
+#[derive(Clone, Copy, PartialEq, Eq, Debug)]
 pub enum Refusal {
-    Short,
+    Short = 1,
     Header,
     Length,
     Cell,
@@ -33,55 +34,25 @@ impl Refusal {
     pub fn number(self) -> u8
         ensures { result ≡ number_of self }
     {
-        match self {
-            Refusal::Short => 1,
-            Refusal::Header => 2,
-            Refusal::Length => 3,
-            Refusal::Cell => 4,
-            Refusal::Record => 5,
-            Refusal::Code => 6,
-            Refusal::Child => 7,
-            Refusal::Nested => 8,
-            Refusal::Weight => 9,
-            Refusal::Scan => 10,
-            Refusal::Bounce => 11,
-            Refusal::Room => 12,
-            Refusal::State => 13,
-            Refusal::Request => 14,
-            Refusal::Text => 15,
-            Refusal::Shape => 16,
-        }
+        self as u8
     }
 }
 
-// Nothing is refused; or the first refusal, and its place.
-#[derive(Clone, Copy)]
-pub enum Verdict {
-    Fine,
-    Refused(Refusal, usize),
-}
-
-// The number and the place of a verdict, as document 01 counts them: 0 and 0 where nothing is refused.
-#[derive(Clone, Copy)]
-pub struct Told {
-    pub number: u8,
+// What an answer that is refused says: the first refusal, and its place.
+#[derive(Clone, Copy, PartialEq, Eq, Debug)]
+pub struct Fault {
+    pub refusal: Refusal,
     pub place: usize,
 }
 
-impl Verdict {
-    // The paper's number and place, for programs that print them.
-    pub fn told(self) -> Told
-        ensures { result ≡ told_of self }
-    {
-        match self {
-            Verdict::Fine => Told {
-                number: 0,
-                place: 0,
-            },
-            Verdict::Refused(refusal, place) => Told {
-                number: refusal.number(),
-                place,
-            },
-        }
+// A rule: nothing where it is kept, and else its refusal at a place.
+#[tactic(auto, unfolding(crate::specs::Verdict::rule))]
+pub fn rule(kept: bool, refusal: Refusal, place: usize) -> Result<(), Fault>
+    ensures { result ≡ kept_or kept refusal place }
+{
+    if kept {
+        Ok(())
+    } else {
+        Err(Fault { refusal, place })
     }
 }
