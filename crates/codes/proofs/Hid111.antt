@@ -52,12 +52,11 @@ spoken u e = go (eqb u 0) (leb 0x04 u && leb u 0xA4) refl refl e
         )
 
 keys_quiet : (cs : List ℕ) → Keys cs → NoCondition cs
-unfolding every
 keys_quiet [] e = refl
 keys_quiet (c ∷ cs) e = let h = both_true _ (every _ cs) e in rw (spoken c h.0).0 (keys_quiet cs h.1)
 
 keys_count : (cs : List ℕ) → Keys cs → count taking cs ≡ count key cs
-unfolding every count
+unfolding count
 keys_count [] e = refl
 keys_count (c ∷ cs) e = let h = both_true _ (every _ cs) e in rw ((spoken c h.0).1, keys_count cs h.1)
 
@@ -68,7 +67,7 @@ count_zeros u (suc m) n = rw (ne_eqb u 0 n) (count_zeros u m n)
 
 -- what passes a test is kept as often as it was there
 count_keep : (p : ℕ → Bool) (u : ℕ) (cs : List ℕ) → p u ≡ true → count (eqb u) (keep p cs) ≡ count (eqb u) cs
-unfolding count keep
+unfolding count
 count_keep p u [] e = refl
 count_keep p u (c ∷ cs) e = go (p c) (eqb u c) refl refl (count_keep p u cs e)
   where
@@ -80,7 +79,6 @@ count_keep p u (c ∷ cs) e = go (p c) (eqb u c) refl refl (count_keep p u cs e)
 
 -- of a list of keys, what takes a place is a named key
 kept_keys : (cs : List ℕ) → Keys cs → every (λ u. eqb u 0 || key u) (keep taking cs) ≡ true
-unfolding every keep
 kept_keys [] e = refl
 kept_keys (c ∷ cs) e = let h = both_true _ (every _ cs) e in go (taking c) refl (spoken c h.0).1 (kept_keys cs h.1)
   where
@@ -123,7 +121,7 @@ unkeyed u e = go (eqb u 0) refl e
         (rw (z, le-leb 0x04 u (omega arith), lt-leb u 0xA4 (omega arith)) h, rw (le-leb 0x04 u (omega arith), lt-leb u 0xA4 (omega arith)))
 
 only_modifiers : (cs : List ℕ) → OnlyModifiers cs → Keys cs × (count key cs ≡ 0)
-unfolding every count
+unfolding count
 only_modifiers [] e = (refl, refl)
 only_modifiers (c ∷ cs) e =
     let h = both_true _ (every _ cs) e in

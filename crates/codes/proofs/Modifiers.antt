@@ -104,7 +104,7 @@ or_joins true b c = refl
 or_joins false b c = refl
 
 pub modified_bit : (m : ℕ) (cs : List ℕ) (k : ℕ) → k < 8 → bit (modified m cs) k ≡ bit m k || has (0xE0 + k) cs
-unfolding modified has
+unfolding modified
 modified_bit m [] k h = sym (or_false (bit m k))
 modified_bit m (c ∷ cs) k h =
     modified_bit (bit_or m (modifier_bit c)) cs k h

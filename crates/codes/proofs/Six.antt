@@ -155,7 +155,6 @@ NoCondition cs = every (λ u. not (condition u)) cs ≡ true
 
 -- what a list with no condition says of its first code and of the others
 no_condition : (c : ℕ) (cs : List ℕ) → NoCondition (c ∷ cs) → (condition c ≡ false) × NoCondition cs
-unfolding every
 no_condition c cs e =
     let h = both_true (not (condition c)) (every (λ u. not (condition u)) cs) e in
     (not-true (condition c) h.0, h.1)
@@ -195,7 +194,7 @@ condition_some c t z = omega (arith, leb-true 1 c (both_true (leb 1 c) (leb c 3)
 -- the bytes so far, and m zeros: as many codes as there are zeros take their places in order
 listed_from : (xs : List ℕ) (m : ℕ) (cs : List ℕ) → Full xs → NoCondition cs → count taking cs ≤ m
     → keyed_all (xs ++ replicate m 0) cs ≡ (xs ++ keep taking cs) ++ replicate (m - count taking cs) 0
-unfolding keyed_all count keep
+unfolding keyed_all count
 listed_from xs m [] f e h = rw (append-nil, sub-zero)
 listed_from xs m (c ∷ cs) f e h = go (taking c) refl m h (λ ys n g. listed_from ys n cs g (no_condition c cs e).1)
   where

@@ -24,7 +24,6 @@ unused_low u = go (eqb u 0) refl
     go false e = sym (lt-leb u 0 (omega (arith, eqb-false u 0 e)))
 
 unused_all : (l : List ℕ) → every unused l ≡ every (at_most 0) l
-unfolding every
 unused_all [] = refl
 unused_all (u ∷ l) = rw (unused_low u, unused_all l)
 
@@ -32,7 +31,6 @@ pub unused_past : (n : ℕ) (l : List ℕ) → length l ≡ 128 → every (at_mo
 unused_past n l long = rw (take_all (128 - n) (drop n l) (omega (arith, length-drop n l))) (sym (unused_all (drop n l)))
 
 unused_binary : (l : List ℕ) → every unused l ≡ true → every binary l ≡ true
-unfolding every
 unused_binary [] e = refl
 unused_binary (u ∷ l) e =
     let h = both_true (unused u) (every unused l) e in

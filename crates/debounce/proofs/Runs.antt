@@ -35,7 +35,7 @@ unfolding state_good
 state_of d b s c n = rw (b, le-leb d.since d.nb_bounce s, c, n)
 
 refused_legal : state_good refused_making ≡ true
-unfolding state_good bounce_good sizes_good is_picture every
+unfolding state_good bounce_good sizes_good is_picture
 refused_legal = refl
 
 made_by : (rows columns nb : ℕ) (start : List ℕ) (b s : Bool) → bounce_good rows columns nb ≡ b → is_scan (rows * columns) start ≡ s

@@ -87,7 +87,7 @@ down_kept c h s rest true e t r = r
 down_kept c h s rest false e t r = down_cons (λ d. cond (same c d) false (h d)) s rest (rw (e, t)) r
 
 down_release : (c : Coord) (h : Coord → Bool) (ss : List State) → Down h ss → Down (λ d. cond (same c d) false (h d)) (release c ss)
-unfolding release keep
+unfolding release
 down_release c h [] d = down_nil (λ d. cond (same c d) false (h d))
 down_release c h (s ∷ ss) d = let p = down_head h s ss d in down_kept c h s (release c ss) (same c (coord_in s)) refl p.0 (down_release c h ss p.1)
 

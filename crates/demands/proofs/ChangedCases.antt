@@ -22,7 +22,7 @@ use Rattle.demands.specs.Z.{z_of, lent}
 use Rattle.demands.specs.ChangedCases.{bytes, image_of, z_renumbered, z_unreached, z_exchanged, z_upright, z_wider, twelve, compared, waits_over, Cases}
 
 pub cases : Cases
-unfolding flatten every keep alike legal word_at cell_of field_of entry_of entries action_of action_at codes_in children_in list_end cell_at named meaning trees tree open? some_open shut_but_last opens_last weight tree_in rule or_else first_fault within counts_good offsets_good header_good head_fault cell_fault form form_good record_fault body_fault fault_of answer check_of same differs from changed placed sizes_equal compare_verdict reply_of compare_reply push push_codes find ruling do_action decided held sum current pressed release act into released overflow entered event ticked tick codes noted_marks falling state_good judged_of answer_of layout_after buffered replied reply replies last_layout z_of lent bytes image_of z_renumbered z_unreached z_exchanged z_upright z_wider twelve compared waits_over
+unfolding flatten legal word_at cell_of field_of entry_of entries action_of action_at codes_in children_in list_end cell_at named meaning trees tree open? some_open shut_but_last opens_last weight tree_in rule or_else first_fault within counts_good offsets_good header_good head_fault cell_fault form form_good record_fault body_fault fault_of answer check_of same differs from changed placed sizes_equal compare_verdict reply_of compare_reply push push_codes find ruling do_action decided held sum current pressed release act into released overflow entered event ticked tick codes noted_marks falling state_good judged_of answer_of layout_after buffered replied reply replies last_layout z_of lent bytes image_of z_renumbered z_unreached z_exchanged z_upright z_wider twelve compared waits_over
 cases =
     record {
       renumbered = refl;

@@ -91,6 +91,6 @@ heard_by (checked.Accepted s) img layout buffer e h = record { shape = s; accept
 heard_by (checked.Refused r place) img layout buffer e h = let y = rw e at h in let z : ◌≡◌ {A = ℕ} 0 1 = cc in absurd (omega arith)
 
 pub heard : Heard
-unfolding Heard NoneRefused every reply replied
+unfolding Heard NoneRefused reply replied
 heard img Tick layout buffer h = heard_by (check_of img) img layout buffer refl (heard_fine _ (tick (table_of img) (unpack img layout)) (both_true _ _ h).0)
 heard img (Enter x) layout buffer h = heard_by (check_of img) img layout buffer refl (heard_fine _ (event (table_of img) x (unpack img layout)) (both_true _ _ h).0)

@@ -168,7 +168,7 @@ module _ (img : List ℕ) (shape : Shape) (e : check_of img ≡ Accepted shape) 
 
   full : (ks : List Lent) (l : Model) → Lawful img l → Roomy ks → every (λ n. eqb n 0) (counts_in (replies img ks (pack l))) ≡ true
       → (map said_in (replies img ks (pack l)) ≡ says_by kept table (calls_of ks) l) × (last_layout (pack l) (replies img ks (pack l)) ≡ pack (leaves_by kept table (calls_of ks) l))
-  unfolding replies last_layout says_by leaves_by Roomy every
+  unfolding replies last_layout says_by leaves_by Roomy
   full [] l w h z = (refl, refl)
   full (k ∷ ks) l w h z =
       let r = call table k.call l in

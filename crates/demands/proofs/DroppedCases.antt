@@ -19,7 +19,7 @@ use Rattle.demands.specs.Z.{fours, crowded, heaviest, lent}
 use Rattle.demands.specs.DroppedCases.{counts_of, counts, counts_full, Cases}
 
 pub cases : Cases
-unfolding every keep alike legal word_at cell_of field_of entry_of entries action_of action_at codes_in children_in list_end cell_at named meaning trees tree open? some_open shut_but_last opens_last weight tree_in rule or_else first_fault within counts_good offsets_good header_good head_fault cell_fault form form_good record_fault body_fault fault_of answer check_of push push_codes find ruling do_action decided held sum current pressed release act into released overflow entered event ticked tick codes noted_marks falling state_good judged_of answer_of layout_after buffered replied reply replies fours crowded heaviest lent counts_of counts counts_full
+unfolding legal word_at cell_of field_of entry_of entries action_of action_at codes_in children_in list_end cell_at named meaning trees tree open? some_open shut_but_last opens_last weight tree_in rule or_else first_fault within counts_good offsets_good header_good head_fault cell_fault form form_good record_fault body_fault fault_of answer check_of push push_codes find ruling do_action decided held sum current pressed release act into released overflow entered event ticked tick codes noted_marks falling state_good judged_of answer_of layout_after buffered replied reply replies fours crowded heaviest lent counts_of counts counts_full
 cases =
     record {
       last = refl;

@@ -43,7 +43,7 @@ arrived_ticks zero = refl
 arrived_ticks (suc n) = arrived_ticks n
 
 pub down_nil : (h : Coord → Bool) → Down h []
-unfolding Down every
+unfolding Down
 down_nil h = refl
 
 pub down_head : (h : Coord → Bool) (x : State) (s : List State) → Down h (x ∷ s) → (h (coord_in x) ≡ true) × Down h s
@@ -51,7 +51,7 @@ unfolding Down
 down_head h x s d = every_head (λ x. h (coord_in x)) x s d
 
 pub down_cons : (h : Coord → Bool) (x : State) (s : List State) → h (coord_in x) ≡ true → Down h s → Down h (x ∷ s)
-unfolding Down every
+unfolding Down
 down_cons h x s e d = rw e d
 
 pub down_more : (h k : Coord → Bool) → ((c : Coord) → h c ≡ true → k c ≡ true) → (s : List State) → Down h s → Down k s

@@ -97,7 +97,7 @@ module _ (img : List ℕ) (shape : Shape) (e : check_of img ≡ Accepted shape) 
     pub told : last_codes (codes l.states) (replies img ks (pack l)) ≡ codes (run (table_of img) (calls_of ks) l).layout.states
 
   pub tied : (ks : List Lent) (l : Model) → Lawful img l → Roomy ks → Tied ks l
-  unfolding replies marks_of last_layout last_codes NoneRefused every run Roomy
+  unfolding replies marks_of last_layout last_codes NoneRefused run Roomy
   tied [] l w h = record { layout = refl; marks = refl; heard = refl; told = refl }
   tied (k ∷ ks) l w h =
       let r = call (table_of img) k.call l in

@@ -78,7 +78,6 @@ AnswerAlike first second ks one other =
 
 -- a list that counts none has none
 none_in : (i : ℕ) (cells : List ℕ) → length cells ≡ 0 → has i cells ≡ false
-unfolding has
 none_in i [] e = refl
 none_in i (cell ∷ cells) e = absurd (omega arith)
 
@@ -172,7 +171,6 @@ says_all [] = refl
 says_all (r ∷ rs) = ap (λ (x : List Says). says r ∷ x) (says_all rs)
 
 refused_none : (rs : List Reply) → every (λ (r : Reply). eqb r.told.number 0) rs ≡ every (λ (a : Told × List ℕ). eqb a.0.number 0) (map answered rs)
-unfolding every
 refused_none [] = refl
 refused_none (r ∷ rs) = ap (λ (t : Bool). eqb r.told.number 0 && t) (refused_none rs)
 

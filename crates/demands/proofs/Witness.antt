@@ -46,12 +46,12 @@ bytes_of (b ∷ l) e (suc i) = bytes_of l (every_head (λ b. ltb b 256) b l e).1
 
 module _ (t : ℕ) where
   z_bytes : t < 256 → (i : ℕ) → get_or (z_of t) i 0 < 256
-  unfolding every z_of
+  unfolding z_of
   z_bytes h = bytes_of (z_of t) (rw (lt-ltb t 256 h))
 
   -- the check does not look at a timeout
   z_accepted : check_of (z_of t) ≡ Accepted (shape_of (z_of t))
-  unfolding z_of legal every word_at cell_of field_of entry_of entries action_of action_at codes_in children_in list_end named meaning trees tree open? some_open shut_but_last opens_last weight rule or_else first_fault within counts_good offsets_good header_good head_fault cell_fault form form_good record_fault body_fault fault_of answer check_of
+  unfolding z_of legal word_at cell_of field_of entry_of entries action_of action_at codes_in children_in list_end named meaning trees tree open? some_open shut_but_last opens_last weight rule or_else first_fault within counts_good offsets_good header_good head_fault cell_fault form form_good record_fault body_fault fault_of answer check_of
   z_accepted = refl
 
   z_longest : (times_of (z_of t)).first ≡ t
@@ -67,7 +67,7 @@ record Computed : Type 0 where
   done : let c : Coord = record { i = 0; j = 0 } in (drain (table_of (z_of 3)) fresh tapped 7).marks ≡ Acted (Press 0 0) ∷ Begun c ∷ Decided c Tap ∷ Acted (Release 0 0) ∷ []
 
 computed : Computed
-unfolding z_of seventeen tapped keep word_at cell_of field_of action_of action_at cell_at named meaning trees tree tree_in push push_codes find ruling do_action decided held sum current pressed release act into released overflow entered event ticked tick call run ticks
+unfolding z_of seventeen tapped word_at cell_of field_of action_of action_at cell_at named meaning trees tree tree_in push push_codes find ruling do_action decided held sum current pressed release act into released overflow entered event ticked tick call run ticks
 computed = record { queued = refl; before = refl; at = record { empty = refl; idle = refl }; two = refl; done = refl }
 
 lent_room : 64 ≤ length lent

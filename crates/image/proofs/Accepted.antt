@@ -91,7 +91,7 @@ unfolding action_at
 past img n h = rw (le-ltb n (records_of img) h)
 
 past_meant : (img : List ℕ) (n : ℕ) → action_at img n ≡ code.NoOp → Meant img n code.NoOp
-unfolding tree meaning list_end codes_in children_in every
+unfolding tree meaning list_end codes_in children_in
 past_meant img n e = record { is = rw e; listed = omega arith; codes = refl; lower = refl }
 
 pub tells : (img : List ℕ) (n : ℕ) {r x : Coded} → Sound img → action_words r ≡ action_words (action_at img n) → r ≡ x → Meant img n x
@@ -228,7 +228,7 @@ or_right false = refl
 
 -- a list of trees is proper where each is, and the open rule holds of the list
 proper_named : (t : ℕ → Action) (n : ℕ) (m : Times) → ((k : ℕ) → k < n → longest (t k) ≤ m.first → proper (t k) m ≡ true) → (ks : List ℕ) → every (λ k. ltb k n) ks ≡ true → shut_but_last (named t ks) ≡ true → longest_of (named t ks) ≤ m.first → proper_all (named t ks) m ≡ true
-unfolding named every shut_but_last longest proper
+unfolding named shut_but_last longest proper
 proper_named t n m f [] l s w = refl
 proper_named t n m f (k ∷ []) l s w =
     and_both ((closed (t k) || true) && proper (t k) m) true
@@ -287,7 +287,7 @@ unfolding word_at
 word_bound img at b = omega (arith, b at, b (at + 1))
 
 longest_named : (t : ℕ → Action) (n : ℕ) → ((k : ℕ) → k < n → longest (t k) ≤ 65535) → (ks : List ℕ) → every (λ k. ltb k n) ks ≡ true → longest_of (named t ks) ≤ 65535
-unfolding named every longest
+unfolding named longest
 longest_named t n f [] l = omega arith
 longest_named t n f (k ∷ ks) l =
     let low = every_head (λ k. ltb k n) k ks l in

@@ -46,15 +46,12 @@ length_entries img e (suc n) = ap suc (length_entries img (e + 1) n)
 -- a test of every entry: it goes on, it stops, it ends; and what its passing says
 module _ (t : ℕ → Bool) (img : List ℕ) (e n : ℕ) where
   pub all_on : 0 < n → t (entry_of img e) ≡ true → every t (entries img e n) ≡ every t (entries img (e + 1) (n - 1))
-  unfolding every
   all_on h g = rw (entries_step img e n h, g)
 
   pub all_no : 0 < n → t (entry_of img e) ≡ false → every t (entries img e n) ≡ false
-  unfolding every
   all_no h g = rw (entries_step img e n h, g)
 
   pub all_none : n ≤ 0 → every t (entries img e n) ≡ true
-  unfolding every
   all_none h = rw (entries_none img e n h)
 
   pub all_head : 0 < n → every t (entries img e n) ≡ true → t (entry_of img e) ≡ true
@@ -75,7 +72,6 @@ all_at t img e (suc n) (suc i) h g =
 
 -- a test of two numbers
 pub all_two : (t : ℕ → Bool) (x y : ℕ) → every t (x ∷ y ∷ []) ≡ (t x && t y)
-unfolding every
 all_two t x y = ap (λ b. t x && b) (and-true (t y))
 
 pub two_of : (t : ℕ → Bool) (x y : ℕ) → every t (x ∷ y ∷ []) ≡ true → (t x ≡ true) × (t y ≡ true)
@@ -121,11 +117,9 @@ module _ (img : List ℕ) (at n i : ℕ) where
   words_on l h = rw (words_step h)
 
   pub below_on : (t : ℕ → Bool) → i < n → t (word_at img (at + 2 * i)) ≡ true → every t (words_after img at n i) ≡ every t (words_after img at n (i + 1))
-  unfolding every
   below_on t h e = rw (words_step h, e)
 
   pub below_no : (t : ℕ → Bool) → i < n → t (word_at img (at + 2 * i)) ≡ false → every t (words_after img at n i) ≡ false
-  unfolding every
   below_no t h e = rw (words_step h, e)
 
 -- no word
@@ -137,7 +131,7 @@ module _ (img : List ℕ) (at n : ℕ) where
       rw k
 
   pub below_none : (t : ℕ → Bool) → n ≤ 0 → every t (words_from img at n) ≡ true
-  unfolding every words_from
+  unfolding words_from
   below_none t h =
       let k : n ≡ 0 = omega arith in
       rw k

@@ -75,27 +75,27 @@ module _ (img : List ℕ) (n : ℕ) (f : Formed img n) where
   rules_past_lem x e = rw (← e) (rule_yes _ _ _ _ f.form (rule_with _ refusal.Code n _ _ (λ _. rule_with _ refusal.Child n _ _ (λ l. ap (λ t. rule (opens_last t) refusal.Nested n (rule (leb (weight t) 64) refusal.Weight n Fine)) (sym (tree_step img n l))))))
 
   pub code_rules : (k : ℕ) → action_at img n ≡ code.KeyCode k → rule (legal k) refusal.Code n Fine ≡ record_fault img n
-  unfolding rule codes_in children_in every meaning opens_last weight
+  unfolding rule codes_in children_in meaning opens_last weight
   code_rules k e = rw (← and-true (legal k)) (rules_past_lem (code.KeyCode k) e)
 
   pub codes_rules : (a b : ℕ) → action_at img n ≡ code.MultipleKeyCodes a b → rule (every legal (entries img a b)) refusal.Code n (rule (leb (1 + b) 64) refusal.Weight n Fine) ≡ record_fault img n
-  unfolding rule codes_in children_in every meaning opens_last weight
+  unfolding rule codes_in children_in meaning opens_last weight
   codes_rules a b e = ap (λ k. rule (every legal (entries img a b)) refusal.Code n (rule (leb (1 + k) 64) refusal.Weight n Fine)) (sym (length_entries img a b)) ∙ rules_past_lem (code.MultipleKeyCodes a b) e
 
   actions_rules : (a b : ℕ) → action_at img n ≡ code.MultipleActions a b → rule (every (λ k. ltb k n) (entries img a b)) refusal.Child n (rule (shut_but_last (named (tree img) (entries img a b))) refusal.Nested n (rule (leb (1 + weights (named (tree img) (entries img a b))) 64) refusal.Weight n Fine)) ≡ record_fault img n
-  unfolding rule codes_in children_in every meaning opens_last weight
+  unfolding rule codes_in children_in meaning opens_last weight
   actions_rules a b e = rules_past_lem (code.MultipleActions a b) e
 
   pub empty_rules : (a b : ℕ) → action_at img n ≡ code.MultipleActions a b → b ≡ 0 → Fine ≡ record_fault img n
-  unfolding rule entries every named shut_but_last weight
+  unfolding rule entries named shut_but_last weight
   empty_rules a b e z = rw z at (actions_rules a b e)
 
   hold_tap_rules : (t h p : ℕ) → action_at img n ≡ code.HoldTap t h p → rule (ltb h n && ltb p n) refusal.Child n (rule (not (open? (tree img h)) && not (open? (tree img p))) refusal.Nested n (rule (leb (1 + (weight (tree img h) + weight (tree img p))) 64) refusal.Weight n Fine)) ≡ record_fault img n
-  unfolding rule codes_in children_in every meaning opens_last weight
+  unfolding rule codes_in children_in meaning opens_last weight
   hold_tap_rules t h p e = rw (← and-true (ltb p n)) (rules_past_lem (code.HoldTap t h p) e)
 
   pub no_rules : (field_of img n 0 ≡ 2 → ⊥) → (field_of img n 0 ≡ 3 → ⊥) → (field_of img n 0 ≡ 4 → ⊥) → (field_of img n 0 ≡ 7 → ⊥) → Fine ≡ record_fault img n
-  unfolding rule codes_in children_in every meaning opens_last weight
+  unfolding rule codes_in children_in meaning opens_last weight
   no_rules h2 h3 h4 h7 =
       by_kind (λ x. Fine ≡ rules_past img n x) (field_of img n 0) (field_of img n 2) (field_of img n 4) (field_of img n 6)
       (λ _. refl) (λ _. refl) (λ e. absurd (h2 e)) (λ e. absurd (h3 e)) (λ e. absurd (h4 e)) (λ _. refl) (λ _. refl) (λ e. absurd (h7 e))

@@ -37,7 +37,7 @@ below_lower img (suc n) k h =
     (eq-or-lt_of_le (le_of_suc-le-suc h))
 
 named_lower : (img : List ℕ) (n : ℕ) (ks : List ℕ) → every (λ k. ltb k n) ks ≡ true → named (below img n) ks ≡ named (tree img) ks
-unfolding named every
+unfolding named
 named_lower img n [] e = refl
 named_lower img n (k ∷ ks) e =
     let both = every_head (λ k. ltb k n) k ks e in

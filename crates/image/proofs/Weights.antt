@@ -118,11 +118,9 @@ parent img k it s p h e q =
 
 -- a list and one more: lower, open, weight
 pub every_one : (t : ℕ → Bool) (z : ℕ) → every t (z ∷ []) ≡ t z
-unfolding every
 every_one t z = and-true (t z)
 
 pub every_last : (t : ℕ → Bool) (ks : List ℕ) (z : ℕ) → every t (ks ++ z ∷ []) ≡ (every t ks && t z)
-unfolding every
 every_last t [] z = and-true (t z)
 every_last t (k ∷ ks) z = rw (every_last t ks z) (and_assoc (t k) (every t ks) (t z))
 
@@ -206,7 +204,7 @@ plain img n f g h h4 =
     none (λ e. none (λ t. absurd (omega arith))) (λ e. none (λ t. absurd (omega arith))) (λ e. (omega (arith, length_entries img (field_of img n 2) (field_of img n 4)), refl)) (λ e. absurd (h4 e)) (λ e. none (λ t. absurd (omega arith))) (λ e. none (λ t. absurd (omega arith))) (λ e. absurd (omega arith)))
 
 pub plain_parts : (img : List ℕ) (n w : ℕ) → Formed img n → Good img n → field_of img n 0 < 7 → (field_of img n 0 ≡ 4 → ⊥) → w ≡ field_of img n 4 → Parts img n (record { b = w; opens = false; at = 0; count = 0 })
-unfolding every words_from named weight open?
+unfolding words_from named weight open?
 plain_parts img n w f g h h4 e =
     let both = plain img n f g h h4 in
     record { words = record { inside = omega arith; few = omega arith; lower = refl }; alone = λ z. omega (arith, e, both.0); weighs = λ h. absurd (omega (arith, h)); opens = sym both.1 }

@@ -36,7 +36,6 @@ codes_more l i d h = rw (add-one, take-suc l i d, map-append, codes_append)
 
 -- those states that pass, through their slots
 pub keep_map : (p : State → Bool) (l : List Slot) → map (λ (s : Slot). s.state) (keep (λ (s : Slot). p s.state) l) ≡ keep p (map (λ (s : Slot). s.state) l)
-unfolding keep
 keep_map p [] = refl
 keep_map p (s ∷ l) = go (p s.state) (keep_map p l)
   where

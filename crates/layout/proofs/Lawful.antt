@@ -68,7 +68,6 @@ falling_new e (s ∷ (t ∷ q)) h =
     rw b.0 (falling_new e (t ∷ q) b.1)
 
 every_keep : (p t : State → Bool) (l : List State) → every p l ≡ true → every p (keep t l) ≡ true
-unfolding every keep
 every_keep p t [] h = refl
 every_keep p t (s ∷ l) h = go (t s) (both_true (p s) (every p l) h).0 (every_keep p t l (both_true (p s) (every p l) h).1)
   where
@@ -98,7 +97,7 @@ module _ (img : List ℕ) where
   lawful_if false x y p q = q
 
   push_lawful : (s : State) (l : Model) → legal_state s ≡ true → Lawful img l → Lawful img (push s l).layout
-  unfolding push every
+  unfolding push
   push_lawful s l e w =
       lawful_if (ltb (length l.states) 64) (still (with_states (l.states ++ (s ∷ [])) l)) _
       (λ h. record {
@@ -112,7 +111,7 @@ module _ (img : List ℕ) where
       w
 
   codes_lawful : (ks : List ℕ) (c : Coord) (l : Model) → every legal ks ≡ true → Lawful img l → Lawful img (push_codes ks c l).layout
-  unfolding push_codes every
+  unfolding push_codes
   codes_lawful [] c l e w = w
   codes_lawful (k ∷ ks) c l e w =
       let b = both_true (legal k) (every legal ks) e in
@@ -223,5 +222,5 @@ module _ (img : List ℕ) where
     tick_lawful l w = ticked_lawful l.waiting (older l.queue) l w.waits (rw length-map w.short) (falling_older l.queue w.ages) w
 
     pub fresh_lawful : Lawful img fresh
-    unfolding every falling
+    unfolding falling
     fresh_lawful = record { few = omega arith; short = omega arith; codes = refl; base = omega (arith, sound.framed.layers.0); ages = refl; waits = tt }

@@ -42,7 +42,6 @@ module _ {A : Type 0} where
   held_more n z l a arr k h ek ep = (simp length-append (omega arith), rw (ek, ep) (pad_push n z l a (omega arith)))
 
   keep_append : (p : A → Bool) (k l : List A) → keep p (k ++ l) ≡ keep p k ++ keep p l
-  unfolding keep
   keep_append p [] l = refl
   keep_append p (a ∷ k) l = go (p a) (keep_append p k l)
     where
@@ -55,7 +54,6 @@ module _ {A : Type 0} where
   pub filter_yes : (n : ℕ) (z : A) (p : A → Bool) (l : List A) (i : ℕ) (d : A) (k : ℕ) (arr : List A) {k' : ℕ} {arr' : List A} → i < length l → k < n → p (get_or l i d) ≡ true
       → k ≡ length (keep p (take i l)) → arr ≡ pad n z (keep p (take i l)) → arr' ≡ set arr k (get_or l i d) → k' ≡ k + 1
       → (k' ≡ length (keep p (take (i + 1) l))) × (arr' ≡ pad n z (keep p (take (i + 1) l)))
-  unfolding keep
   filter_yes n z p l i d k arr h hk e ek ep ea ek' =
       let m = held_more n z (keep p (take i l)) (get_or l i d) arr k hk ek ep in
       let one : keep p (take (i + 1) l) ≡ keep p (take i l) ++ (get_or l i d ∷ []) = rw (add-one, take-suc l i d, keep_append, e) in
@@ -64,13 +62,11 @@ module _ {A : Type 0} where
   pub filter_no : (n : ℕ) (z : A) (p : A → Bool) (l : List A) (i : ℕ) (d : A) (k : ℕ) (arr : List A) {k' : ℕ} {arr' : List A} → i < length l → p (get_or l i d) ≡ false
       → k ≡ length (keep p (take i l)) → arr ≡ pad n z (keep p (take i l)) → arr' ≡ arr → k' ≡ k
       → (k' ≡ length (keep p (take (i + 1) l))) × (arr' ≡ pad n z (keep p (take (i + 1) l)))
-  unfolding keep
   filter_no n z p l i d k arr h e ek ep ea ek' =
       let one : keep p (take (i + 1) l) ≡ keep p (take i l) = rw (add-one, take-suc l i d, keep_append, e, append-nil) in
       rw (one, ea, ek') (ek, ep)
 
   pub keep_length : (p : A → Bool) (l : List A) → length (keep p l) ≤ length l
-  unfolding keep
   keep_length p [] = omega arith
   keep_length p (s ∷ l) = go (p s) (keep_length p l)
     where

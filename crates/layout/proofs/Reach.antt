@@ -35,22 +35,18 @@ use Rattle.layout.proofs.Lawful.{WaitsWell, Lawful, event_lawful, tick_lawful, f
 
 -- states and their slots are legal together
 legal_states : (l : List Slot) → every legal_state (map (λ (s : Slot). s.state) l) ≡ every legal_slot l
-unfolding every
 legal_states [] = refl
 legal_states (s ∷ l) = ap (λ (b : Bool). legal_state s.state && b) (legal_states l)
 
 legal_slots : (l : List State) → every legal_slot (map (λ (s : State). record { state = s }) l) ≡ every legal_state l
-unfolding every
 legal_slots [] = refl
 legal_slots (s ∷ l) = ap (λ (b : Bool). legal_state s && b) (legal_slots l)
 
 no_slots : (n : ℕ) → every unused_slot (replicate n no_slot) ≡ true
-unfolding every
 no_slots zero = refl
 no_slots (suc n) = no_slots n
 
 no_events : (n : ℕ) → every unused_stacked (replicate n no_stacked) ≡ true
-unfolding every
 no_events zero = refl
 no_events (suc n) = no_events n
 
@@ -125,7 +121,7 @@ unpack_pack img l w =
 
 -- what calls may start from keeps State's rules; and a fresh layout is such a start
 pub starts_lawful : (img : List ℕ) (l : Model) → Starts img l → Lawful img l
-unfolding every falling
+unfolding falling
 starts_lawful img l s =
     record {
       few = rw s.stateless (omega arith);

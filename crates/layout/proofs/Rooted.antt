@@ -40,7 +40,7 @@ unfoldable mutual
 
 module _ (img : List ℕ) where
   rooted_named : (n : ℕ) → ((k : ℕ) → k < n → Rooted img (tree img k)) → (ks : List ℕ) → every (λ k. ltb k n) ks ≡ true → AllRooted img (named (tree img) ks)
-  unfolding Rooted named every
+  unfolding Rooted named
   rooted_named n below [] e = tt
   rooted_named n below (k ∷ ks) e =
       let h = both_true (ltb k n) (every (λ k. ltb k n) ks) e in
@@ -48,7 +48,7 @@ module _ (img : List ℕ) where
 
   rooted_means : (n : ℕ) → ((k : ℕ) → k < n → Rooted img (tree img k)) → (a : Coded) → tree img n ≡ meaning img (tree img) n a → every legal (codes_in img a) ≡ true → every (λ k. ltb k n) (children_in img a) ≡ true
       → Rooted img (meaning img (tree img) n a)
-  unfolding Rooted meaning codes_in children_in every
+  unfolding Rooted meaning codes_in children_in
   rooted_means n below code.NoOp e codes lower = tt
   rooted_means n below code.Trans e codes lower = tt
   rooted_means n below (code.KeyCode k) e codes lower = (both_true (legal k) true codes).0

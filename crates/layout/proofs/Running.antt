@@ -32,7 +32,7 @@ unfoldable pub Down : (Coord → Bool) → List State → Type 0
 Down h s = every (λ x. h (coord_in x)) s ≡ true
 
 down_push : (h : Coord → Bool) (s : List State) (x : State) → Down h s → h (coord_in x) ≡ true → Down h (s ++ (x ∷ []))
-unfolding Down every
+unfolding Down
 down_push h s x d e = every_append (λ x. h (coord_in x)) s (x ∷ []) d (rw e)
 
 -- a closed action at the coordinates c leads from l to k: only states of c are added

@@ -29,11 +29,9 @@ use Rattle.layout.proofs.Pads.{drop_one, padded}
 -- among the first n, from a place on
 module _ {A : Type 0} (p : A → Bool) (l : List A) (n i : ℕ) (d : A) (h : i < n) (long : n ≤ length l) where
   pub every_next : p (get_or l i d) ≡ true → every p (drop i (take n l)) ≡ every p (drop (i + 1) (take n l))
-  unfolding every
   every_next e = rw (drop_one l n i d h long, e)
 
   pub every_stop : p (get_or l i d) ≡ false → every p (drop i (take n l)) ≡ false
-  unfolding every
   every_stop e = rw (drop_one l n i d h long, e)
 
 -- the ages of two that follow each other
@@ -132,7 +130,6 @@ unused_stacked_lem s h =
     ∙ ap (λ (x : ℕ). record { event = Release 0 0; since = x }) (eqb-true s.since 0 a.0)
 
 all_are : {A : Type 0} (p : A → Bool) (z : A) → ((a : A) → p a ≡ true → a ≡ z) → (l : List A) → every p l ≡ true → l ≡ replicate (length l) z
-unfolding every
 all_are p z is [] h = refl
 all_are {A} p z is (a ∷ l) h = let b = both_true (p a) (every p l) h in rw (is a b.0) (ap (λ (x : List A). z ∷ x) (all_are p z is l b.1))
 

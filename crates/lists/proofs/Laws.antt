@@ -26,11 +26,9 @@ seen_all good inv e = sym (inv ∙ rw e (and-true good))
 module _ {A : Type 0} (p : A → Bool) where
   -- the first and the others
   pub every_head : (x : A) (xs : List A) → every p (x ∷ xs) ≡ true → (p x ≡ true) × (every p xs ≡ true)
-  unfolding every
   every_head x xs e = both_true (p x) (every p xs) e
 
   pub every_split : (xs ys : List A) → every p (xs ++ ys) ≡ every p xs && every p ys
-  unfolding every
   every_split [] ys = refl
   every_split (x ∷ xs) ys = rw (every_split xs ys) (sym (and_assoc (p x) (every p xs) (every p ys)))
 
@@ -38,7 +36,6 @@ module _ {A : Type 0} (p : A → Bool) where
   every_append xs ys e f = rw (every_split xs ys, e) f
 
   pub every_replicate : (n : ℕ) (x : A) → p x ≡ true → every p (replicate n x) ≡ true
-  unfolding every
   every_replicate zero x e = refl
   every_replicate (suc n) x e = rw e (every_replicate n x e)
 
@@ -54,34 +51,27 @@ module _ {A : Type 0} (p : A → Bool) where
   -- from a place on: the element there passes, and then those from the next place on; or it does not; or none is left
   module _ (l : List A) (i : ℕ) (d : A) where
     pub every_on : i < length l → p (get_or l i d) ≡ true → every p (drop i l) ≡ every p (drop (i + 1) l)
-    unfolding every
     every_on h e = rw (add-one, drop-cons l i d, e)
 
     pub every_fails : i < length l → p (get_or l i d) ≡ false → every p (drop i l) ≡ false
-    unfolding every
     every_fails h e = rw (drop-cons l i d, e)
 
     pub every_none : length l ≤ i → every p (drop i l) ≡ true
-    unfolding every
     every_none h = rw (drop_of_length-le l h)
 
 -- from a place on: equal there and then from the next place on; not equal there; none left
 module _ (a b : List ℕ) (i : ℕ) where
   pub alike_on : i < length a → i < length b → get_or a i 0 ≡ get_or b i 0 → alike (drop i a) (drop i b) ≡ alike (drop (i + 1) a) (drop (i + 1) b)
-  unfolding alike
   alike_on h g e = rw (add-one, drop-cons a i 0, drop-cons b i 0, eq-eqb (get_or a i 0) (get_or b i 0) e)
 
   pub alike_fails : i < length a → i < length b → (get_or a i 0 ≡ get_or b i 0 → ⊥) → alike (drop i a) (drop i b) ≡ false
-  unfolding alike
   alike_fails h g n = rw (drop-cons a i 0, drop-cons b i 0, ne_eqb (get_or a i 0) (get_or b i 0) n)
 
   pub alike_none : length a ≤ i → length b ≤ i → alike (drop i a) (drop i b) ≡ true
-  unfolding alike
   alike_none h g = rw (drop_of_length-le a h, drop_of_length-le b g)
 
 -- lists that pass the test are equal, and equal ones pass it; so others do not
 pub alike_is : (a b : List ℕ) → alike a b ≡ true → a ≡ b
-unfolding alike
 alike_is [] [] e = refl
 alike_is [] (y ∷ b) e = cc
 alike_is (x ∷ a) [] e = cc
@@ -90,7 +80,6 @@ alike_is (x ∷ a) (y ∷ b) e =
     rw (eqb-true x y h.0, alike_is a b h.1)
 
 pub alike_self : (a : List ℕ) → alike a a ≡ true
-unfolding alike
 alike_self [] = refl
 alike_self (x ∷ a) = rw (eq-eqb x x refl) (alike_self a)
 

@@ -1,17 +1,15 @@
 -- Plain words on lists, for statements. Assumes nothing.
-use Rattle.std.specs.Prelude.{ℕ, suc, Bool, true, false, cond, ◌&&◌, ◌||◌, List, [], ◌∷◌, ◌++◌, eqb, length, drop}
+use Rattle.std.specs.Prelude.{ℕ, suc, Bool, cond, List, [], ◌∷◌, ◌++◌, eqb, length, drop, filter}
+use Rattle.std.specs.Str.{bytes_eq}
+use Rattle.std.specs.List.{list_any, list_all}
 
 -- a number stands in the list
-unfoldable pub has : ℕ → List ℕ → Bool
-has u [] = false
-has u (v ∷ vs) = eqb v u || has u vs
+abbrev pub has : ℕ → List ℕ → Bool
+has u l = list_any (λ v. eqb v u) l
 
 -- two lists hold the same
-unfoldable pub alike : List ℕ → List ℕ → Bool
-alike [] [] = true
-alike [] (y ∷ ys) = false
-alike (x ∷ xs) [] = false
-alike (x ∷ xs) (y ∷ ys) = eqb x y && alike xs ys
+abbrev pub alike : List ℕ → List ℕ → Bool
+alike = bytes_eq
 
 -- bytes laid over the start of a buffer, which keeps what is past them
 abbrev pub laid : List ℕ → List ℕ → List ℕ
@@ -24,11 +22,9 @@ module _ {A : Type 0} where
   count p (u ∷ us) = cond (p u) (suc (count p us)) (count p us)
 
   -- each of the list passes the test
-  unfoldable pub every : (A → Bool) → List A → Bool
-  every p [] = true
-  every p (u ∷ us) = p u && every p us
+  abbrev pub every : (A → Bool) → List A → Bool
+  every = list_all
 
   -- those of the list that pass the test, in their order
-  unfoldable pub keep : (A → Bool) → List A → List A
-  keep p [] = []
-  keep p (u ∷ us) = cond (p u) (u ∷ keep p us) (keep p us)
+  abbrev pub keep : (A → Bool) → List A → List A
+  keep = filter

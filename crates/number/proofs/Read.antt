@@ -33,7 +33,7 @@ grows n [] = omega arith
 grows n (c ∷ cs) = omega (arith, grows (10 * n + (c - 48)) cs)
 
 behind_no : (n c : ℕ) (cs : List ℕ) → is_digit c ≡ false → read_behind n (c ∷ cs) ≡ Unread
-unfolding read_behind every
+unfolding read_behind
 behind_no n c cs e = rw e
 
 -- a byte of the word: below the digits, above them, or one of them, and the next is read; and what came to too much already
@@ -45,7 +45,7 @@ module _ (n : ℕ) (l : List ℕ) (i : ℕ) (h : i < length l) where
   read_above k = rw (drop-cons l i 0 h) (behind_no n _ _ (digit_above (get_or l i 0) k))
 
   pub read_on : 48 ≤ get_or l i 0 → get_or l i 0 ≤ 57 → read_behind n (drop i l) ≡ read_behind (10 * n + (get_or l i 0 - 48)) (drop (i + 1) l)
-  unfolding read_behind every comes_to
+  unfolding read_behind comes_to
   read_on low high = rw (add-one, drop-cons l i 0 h, digit_yes (get_or l i 0) low high)
 
 pub read_much : (n : ℕ) (cs : List ℕ) → 65535 < n → read_behind n cs ≡ Unread
@@ -55,7 +55,7 @@ read_much n cs h =
     rw (lt-leb (comes_to n cs) 65535 past, and-false)
 
 pub read_end : (n : ℕ) (l : List ℕ) (i : ℕ) → length l ≤ i → n ≤ 65535 → read_behind n (drop i l) ≡ Value n
-unfolding read_behind every comes_to
+unfolding read_behind comes_to
 read_end n l i past h = rw (drop_of_length-le l past, le-leb n 65535 h)
 
 -- a word by its length

@@ -6,5 +6,5 @@ use Rattle.panel_line.specs.Line.{space_at, coords_of, starts_with, line_of}
 use Rattle.panel_line.specs.Cases.{cases, Cases}
 
 pub all_said : Cases
-unfolding every is_digit comes_to read_behind read_decimal read_within space_at coords_of starts_with line_of cases Cases
+unfolding is_digit comes_to read_behind read_decimal read_within space_at coords_of starts_with line_of cases Cases
 all_said = refl

@@ -17,11 +17,11 @@ use Rattle.table_text.specs.Plain.{starts_digit, unzeroed, plain}
 use Rattle.table_cases.specs.Cases.{All, line_cases, LineCases, counts, cell, no_op, least, image, spelled, answered, cases, Cases, Printed}
 
 pub all_read : LineCases
-unfolding every is_digit comes_to read_behind read_decimal ahead parts starts_with single read_words row_of All line_cases LineCases
+unfolding is_digit comes_to read_behind read_decimal ahead parts starts_with single read_words row_of All line_cases LineCases
 all_read = (refl, (refl, (refl, (refl, (refl, (refl, (refl, (refl, tt))))))))
 
 pub all_answered : Cases
-unfolding every legal rule or_else first_fault word_at cell_of field_of entry_of entries action_of action_at codes_in children_in named meaning trees tree open? some_open shut_but_last opens_last weight within counts_good offsets_good header_good head_fault cell_fault form form_good record_fault body_fault fault_of is_digit comes_to read_behind read_decimal ahead parts starts_with single read_words row_of numbers_in numbers_of reply_of shape_from asks fits_at lines_fault counts_in text_fault bytes_of image_from image_of write_verdict write_reply answered counts cell no_op least image spelled All cases Cases
+unfolding legal rule or_else first_fault word_at cell_of field_of entry_of entries action_of action_at codes_in children_in named meaning trees tree open? some_open shut_but_last opens_last weight within counts_good offsets_good header_good head_fault cell_fault form form_good record_fault body_fault fault_of is_digit comes_to read_behind read_decimal ahead parts starts_with single read_words row_of numbers_in numbers_of reply_of shape_from asks fits_at lines_fault counts_in text_fault bytes_of image_from image_of write_verdict write_reply answered counts cell no_op least image spelled All cases Cases
 all_answered = (refl, (refl, (refl, (refl, (refl, (refl, (refl, (refl, (refl, (refl, (refl, (refl, (refl, (refl, tt))))))))))))))
 
 pub all_printed : Printed

@@ -26,7 +26,7 @@ use Rattle.table_changes.proofs.Verdicts.{Compares, compares}
 module _ (p : ℕ → Bool) where
   -- a number that is not among them
   not_kept : (i n k : ℕ) → ((j : ℕ) → j < n → i + j ≡ k → ⊥) → has k (keep p (from i n)) ≡ false
-  unfolding has keep from
+  unfolding from
   not_kept i zero k f = refl
   not_kept i (suc n) k f = go (p i) (λ e. f 0 (omega arith) (omega arith)) (not_kept (i + 1) n k (λ j h e. f (suc j) (omega arith) (omega arith)))
     where
@@ -36,7 +36,7 @@ module _ (p : ℕ → Bool) where
 
   -- one that is, by how far it is from the first
   kept : (i n k : ℕ) → k < n → has (i + k) (keep p (from i n)) ≡ p (i + k)
-  unfolding has keep from
+  unfolding from
   kept i zero k h = absurd (not-suc-le-zero h)
   kept i (suc n) zero h =
       let s : i + 0 ≡ i = omega arith in
@@ -56,7 +56,7 @@ module _ (p : ℕ → Bool) where
 
   -- they rise, behind any smaller one
   rises_on : (i n k : ℕ) → k < i → rising (k ∷ keep p (from i n)) ≡ true
-  unfolding rising keep from
+  unfolding rising from
   rises_on i zero k h = refl
   rises_on i (suc n) k h = go (p i) (rises_on (i + 1) n i (omega arith)) (rises_on (i + 1) n k (omega arith))
     where
@@ -66,7 +66,7 @@ module _ (p : ℕ → Bool) where
       go false e f = f
 
   rises : (i n : ℕ) → rising (keep p (from i n)) ≡ true
-  unfolding rising keep from
+  unfolding rising from
   rises i zero = refl
   rises i (suc n) = go (p i) (rises_on (i + 1) n i (omega arith)) (rises (i + 1) n)
     where

@@ -33,7 +33,6 @@ module _ (first second : List ℕ) (m n : ℕ) (x y : Node) (p : Met first m x) 
   parts_in img z = cond (eqb z.kind 3) end (named (tree img) (words_of img z))
 
   by_parts : same (tree first m) (tree second n) ≡ ((eqb x.kind y.kind && (eqb x.word y.word && alike (codes_in first x) (codes_in second y))) && same_all (parts_in first x) (parts_in second y))
-  unfolding alike
   by_parts = same_parts (tree first m) (tree second n) ∙ rw (p.says, q.says, p.names, q.names)
 
   pub other_kind : (x.kind ≡ y.kind → ⊥) → same (tree first m) (tree second n) ≡ false
@@ -46,7 +45,7 @@ module _ (first second : List ℕ) (m n : ℕ) (x y : Node) (p : Met first m x) 
     module _ (w : x.word ≡ y.word) where
       -- where kinds and own words agree
       by_words : (b : Bool) → eqb x.kind 3 ≡ b → same (tree first m) (tree second n) ≡ cond b (alike (words_of first x) (words_of second y)) (same_all (named (tree first) (words_of first x)) (named (tree second) (words_of second y)))
-      unfolding alike same
+      unfolding same
       by_words true e = by_parts ∙ rw (eq-eqb _ _ k, eq-eqb _ _ w, ← k, e) (and-true _)
       by_words false e = by_parts ∙ rw (eq-eqb _ _ k, eq-eqb _ _ w, ← k, e)
 

@@ -20,7 +20,7 @@ use Rattle.table_changes.specs.Inside.{Met}
 -- one that names none and has no list
 pub leaf_met : (img : List ℕ) (n kind word : ℕ) (x : Action) → tree img n ≡ x → own x ≡ kind ∷ word ∷ [] → parts x ≡ end → eqb kind 3 ≡ false
     → Met img n (record { kind = kind; word = word; at = 0; count = 0 })
-unfolding words_from named every
+unfolding words_from named
 leaf_met img n kind word x e o p k = record { near = omega arith; says = rw (e, k) o; names = rw (e, k) p; lower = λ h. refl }
 
 module _ (img : List ℕ) (n first count : ℕ) where

@@ -27,15 +27,12 @@ module _ (rows columns i : ℕ) (s : Sized rows columns (i + 1)) where
 module _ (p : ℕ → Bool) where
   -- one number, kept or not
   pub keep_one : (i : ℕ) → p i ≡ true → keep p (i ∷ []) ≡ i ∷ []
-  unfolding keep
   keep_one i e = rw e
 
   pub keep_no : (i : ℕ) → p i ≡ false → keep p (i ∷ []) ≡ []
-  unfolding keep
   keep_no i e = rw e
 
   pub keep_few : (i : ℕ) → length (keep p (i ∷ [])) ≤ 1
-  unfolding keep
   keep_few i = go (p i)
     where
       go : (t : Bool) → length (cond t (i ∷ []) []) ≤ 1
@@ -68,7 +65,7 @@ from_step n i h =
     rw k
 
 pub keep_end : (p : ℕ → Bool) (n i : ℕ) → n ≤ i → keep p (from_on n i) ≡ []
-unfolding from keep
+unfolding from
 keep_end p n i h =
     let k : n - i ≡ 0 = omega arith in
     rw k
@@ -82,7 +79,7 @@ module _ (p : ℕ → Bool) (rows columns : ℕ) {out whole was : List ℕ} wher
   pub rest_on : (n i count : ℕ) {more : ℕ} {after : List ℕ} → i < n → Rest rows columns (keep p (from_on n i)) count out whole was
       → more ≡ count + length (keep p (i ∷ [])) → after ≡ sets out (3 * count) (placed rows columns (keep p (i ∷ [])))
       → Rest rows columns (keep p (from_on n (i + 1))) more after whole was
-  unfolding keep placed
+  unfolding placed
   rest_on n i count h r e f = go (p i) (rw (from_step n i h) at r) e f
     where
       others : List ℕ

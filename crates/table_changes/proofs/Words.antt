@@ -16,15 +16,13 @@ use Rattle.table_changes.specs.Same.{same, same_all}
 module _ (first second : List ℕ) (at other n : ℕ) where
   pub alike_on : (i : ℕ) → i < n → word_at first (at + 2 * i) ≡ word_at second (other + 2 * i)
       → alike (words_after first at n i) (words_after second other n i) ≡ alike (words_after first at n (i + 1)) (words_after second other n (i + 1))
-  unfolding alike
   alike_on i h e = rw (words_step first at n i h, words_step second other n i h, eq-eqb _ _ e)
 
   pub alike_no : (i : ℕ) → i < n → (word_at first (at + 2 * i) ≡ word_at second (other + 2 * i) → ⊥) → alike (words_after first at n i) (words_after second other n i) ≡ false
-  unfolding alike
   alike_no i h e = rw (words_step first at n i h, words_step second other n i h, ne_eqb _ _ e)
 
   pub alike_end : (i : ℕ) → n ≤ i → alike (words_after first at n i) (words_after second other n i) ≡ true
-  unfolding alike words_from
+  unfolding words_from
   alike_end i h =
       let k : n - i ≡ 0 = omega arith in
       rw k

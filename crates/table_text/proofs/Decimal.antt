@@ -31,7 +31,7 @@ digit_made x h = rw (le-leb 48 (48 + x) (omega arith), le-leb (48 + x) 57 (omega
 
 -- digits hold no byte that is none
 pub digits_free : (d : ℕ) (l : List ℕ) → is_digit d ≡ false → every is_digit l ≡ true → free d l ≡ true
-unfolding free every
+unfolding free
 digits_free d [] n f = refl
 digits_free d (c ∷ cs) n f =
     let h = every_head is_digit c cs f in
@@ -42,7 +42,7 @@ digits_free d (c ∷ cs) n f =
 
 -- a place has a digit or nothing
 pub place_digits : (n u : ℕ) → every is_digit (place_of n u) ≡ true
-unfolding place_of every
+unfolding place_of
 place_digits n u = go (ltb 0 u && leb u n)
   where
     go : (t : Bool) → every is_digit (cond t ((48 + n / u % 10) ∷ []) []) ≡ true
@@ -59,7 +59,7 @@ place_short n u = go (ltb 0 u && leb u n)
 
 -- what is written is digits, one to five of them
 pub decimal_digits : (n : ℕ) → every is_digit (decimal_of n) ≡ true
-unfolding decimal_of every
+unfolding decimal_of
 decimal_digits n = simp (every_split, place_digits) (rw (digit_made (n % 10) (omega arith)))
 
 pub decimal_short : (n : ℕ) → length (decimal_of n) ≤ 5

@@ -41,12 +41,12 @@ rows_count img at zero w = refl
 rows_count img at (suc n) w = ap suc (rows_count img (at + 2 * w) n w)
 
 pub rows_wide : (img : List ℕ) (at n w : ℕ) → wide w (rows_from img at n w) ≡ true
-unfolding rows_from wide every
+unfolding rows_from wide
 rows_wide img at zero w = refl
 rows_wide img at (suc n) w = rw (eq-eqb (length (words_from img at w)) w (length_words img at w)) (rows_wide img (at + 2 * w) n w)
 
 pub rows_small : (img : List ℕ) (at n w : ℕ) → ((i : ℕ) → get_or img i 0 < 256) → small (rows_from img at n w) ≡ true
-unfolding rows_from small every
+unfolding rows_from small
 rows_small img at zero w b = refl
 rows_small img at (suc n) w b = rw (words_small img at w b) (rows_small img (at + 2 * w) n w b)
 
@@ -116,7 +116,7 @@ module _ (img : List ℕ) (fine : fault_of img ≡ Fine) where
 
 -- every number of an image is a word
 pub rows_words : (img : List ℕ) → ((i : ℕ) → get_or img i 0 < 256) → small (rows_in img) ≡ true
-unfolding small rows_in every
+unfolding small rows_in
 rows_words img b =
     let t = every (λ n. leb n 65535) in
     let cells = rows_from img 16 (layers_of img * rows_of img) (columns_of img) in

@@ -26,7 +26,7 @@ module _ (d : ℕ) where
       (not-true (eqb c d) h.0, h.1)
 
   pub free_cons : (c : ℕ) (cs : List ℕ) → eqb c d ≡ false → free d cs ≡ true → free d (c ∷ cs) ≡ true
-  unfolding free every
+  unfolding free
   free_cons c cs e f = rw e f
 
   pub free_append : (v w : List ℕ) → free d v ≡ true → free d w ≡ true → free d (v ++ w) ≡ true
@@ -62,7 +62,7 @@ module _ (d : ℕ) where
 
   -- the index of the first d: none is before it, it is within the bytes or is their number, there the bytes are cut
   pub index_free : (l : List ℕ) → free d (take (index_of d l) l) ≡ true
-  unfolding free every index_of
+  unfolding free index_of
   index_free [] = refl
   index_free (c ∷ cs) = go (eqb c d) refl (index_free cs)
     where

@@ -132,7 +132,7 @@ line_written (n ∷ (m ∷ ns)) = rw (append_assoc, line_written (m ∷ ns))
 
 -- no newline is within
 pub written_free : (ns : List ℕ) → free 10 (written ns) ≡ true
-unfolding written free every
+unfolding written free
 written_free [] = refl
 written_free (n ∷ []) = decimal_no_newline n
 written_free (n ∷ (m ∷ ns)) =

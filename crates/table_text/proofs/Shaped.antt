@@ -78,7 +78,7 @@ record Parted (s : Shape) (i n w : ℕ) (rows : List (List ℕ)) : Type 0 where
 
 part_more : (s : Shape) (i n w : ℕ) (row : List ℕ) (rows : List (List ℕ)) → eqb (length row) w ≡ true → Parted s (i + 1) n w rows
     → Parted s i (suc n) w (row ∷ rows)
-unfolding wide every
+unfolding wide
 part_more s i n w row rows e p =
     let k : i + suc n ≡ i + 1 + n = omega arith in
     record {
@@ -93,7 +93,7 @@ part_more s i n w row rows e p =
 shaped_part : (s : Shape) (i n w : ℕ) (rows : List (List ℕ)) → i + n ≤ 1 + lines_asked s
     → ((j m : ℕ) → i ≤ j → j < i + n → asks s j m ≡ eqb m w)
     → shaped s i rows ≡ true → Parted s i n w rows
-unfolding shaped wide every
+unfolding shaped wide
 shaped_part s i zero w rows l f e = record { first = []; others = rows; is = refl; long = refl; wide = refl; rest = rw add-zero e }
 shaped_part s i (suc n) w [] l f e = absurd (omega (arith, ltb-true (lines_asked s) i e))
 shaped_part s i (suc n) w (row ∷ rows) l f e =

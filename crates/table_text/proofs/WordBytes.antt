@@ -80,6 +80,6 @@ bytes_back (x ∷ (y ∷ l)) (suc n) b e =
 
 -- words of bytes are words
 pub words_small : (img : List ℕ) (at n : ℕ) → ((i : ℕ) → get_or img i 0 < 256) → every (λ n. leb n 65535) (words_from img at n) ≡ true
-unfolding every words_from word_at
+unfolding words_from word_at
 words_small img at zero b = refl
 words_small img at (suc n) b = rw (le-leb (word_at img at) 65535 (omega (arith, b at, b (at + 1)))) (words_small img (at + 2) n b)

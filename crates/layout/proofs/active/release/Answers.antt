@@ -14,7 +14,6 @@ use Rattle.layout.proofs.active.release.Goals as goal
 use Rattle.layout.proofs.active.release.Goals.{then-not-is_same, else-not-is_same}
 
 pub loop-i-init : goal.loop-i-init
-unfolding keep
 loop-i-init c = (omega arith, omega arith, refl, refl)
 
 pub loop-i-preserved : goal.loop-i-preserved

@@ -34,7 +34,6 @@ loop-i-preserved c = (
 )
 
 pub returns : goal.returns
-unfolding every
 returns c =
     let all : c.loop-i.i ≡ c.args.active.len = omega arith in
     sym (c.loop-i.invariant.1 ∙ rw (all, drop_done))
