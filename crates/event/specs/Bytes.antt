@@ -1,11 +1,10 @@
 -- An event's coordinates and its three bytes: document 01, Debounce, last sentence.
 -- Assumes nothing.
-use Rattle.std.specs.Prelude.{ℕ, cond, List, [], ◌∷◌, eqb, get_or}
+use Rattle.std.specs.Prelude.{ℕ, cond, List, [], ◌∷◌, eqb, get_or, Result, Ok, Err}
 use Rattle.event.specs.declared.Event.{Event}
 use Rattle.event.specs.declared.Event.TheVariants.{Release, Press}
 use Rattle.event.specs.declared.Coord.{Coord}
-use Rattle.event.specs.declared.Read.{Read}
-use Rattle.event.specs.declared.Read.TheVariants as read
+use Rattle.event.specs.declared.UnknownKind.{UnknownKind}
 
 abbrev pub coord_of : Event → Coord
 coord_of (Release i j) = record { i = i; j = j }
@@ -17,13 +16,8 @@ bytes_of (Release i j) = 0 ∷ i ∷ j ∷ []
 bytes_of (Press i j) = 1 ∷ i ∷ j ∷ []
 
 -- the event of a first byte, row and column; another first byte is no event
-abbrev pub read_as : ℕ → ℕ → ℕ → Read
-read_as kind i j = cond (eqb kind 0) (read.Event (Release i j)) (cond (eqb kind 1) (read.Event (Press i j)) read.Nothing)
+abbrev pub read_as : ℕ → ℕ → ℕ → Result Event UnknownKind
+read_as kind i j = cond (eqb kind 0) (Ok (Release i j)) (cond (eqb kind 1) (Ok (Press i j)) (Err (record { kind = kind })))
 
-abbrev pub read_of : List ℕ → Read
+abbrev pub read_of : List ℕ → Result Event UnknownKind
 read_of bytes = read_as (get_or bytes 0 0) (get_or bytes 1 0) (get_or bytes 2 0)
-
--- the values of what was read, case by case: the event's three bytes, or none
-abbrev pub read_values : Read → List ℕ
-read_values (read.Event e) = bytes_of e
-read_values read.Nothing = []

@@ -4,25 +4,24 @@
 #![tactic(auto)]
 
 ghost use Rattle.std.specs.Prelude.{◌≡◌};
-ghost use Rattle.event.specs.Bytes.{coord_of, bytes_of, read_of, read_values};
+ghost use Rattle.event.specs.Bytes.{coord_of, bytes_of, read_of};
 
-#[derive(Clone, Copy)]
+#[derive(Clone, Copy, PartialEq, Eq, Debug)]
 pub enum Event {
     Release(u8, u8),
     Press(u8, u8),
 }
 
-#[derive(Clone, Copy)]
+#[derive(Clone, Copy, PartialEq, Eq, Debug)]
 pub struct Coord {
     pub i: u8,
     pub j: u8,
 }
 
-// What three bytes say.
-#[derive(Clone, Copy)]
-pub enum Read {
-    Event(Event),
-    Nothing,
+// A first byte that is neither 0 nor 1.
+#[derive(Clone, Copy, PartialEq, Eq, Debug)]
+pub struct UnknownKind {
+    pub kind: u8,
 }
 
 impl Event {
@@ -31,34 +30,34 @@ impl Event {
         ensures { result ≡ coord_of self }
     {
         match self {
-            Event::Release(i, j) => Coord { i, j },
-            Event::Press(i, j) => Coord { i, j },
+            Event::Release(i, j) | Event::Press(i, j) => Coord { i, j },
         }
     }
+}
 
-    // The event's three bytes.
-    pub fn bytes(self) -> [u8; 3]
-        ensures { result ≡ bytes_of self }
-    {
-        match self {
+// The event's three bytes.
+impl From<Event> for [u8; 3] {
+    ghost from_gives = { λ event r. r ≡ bytes_of event };
+
+    fn from(event: Event) -> [u8; 3] {
+        match event {
             Event::Release(i, j) => [0, i, j],
             Event::Press(i, j) => [1, i, j],
         }
     }
+}
 
-    // The event that three bytes are of, or nothing where the first is neither 0 nor 1.
-    pub fn read(bytes: [u8; 3]) -> Read
-        ensures { read_values result ≡ read_values (read_of bytes) }
-    {
-        let kind = bytes[0];
-        let i = bytes[1];
-        let j = bytes[2];
-        if kind == 0 {
-            return Read::Event(Event::Release(i, j));
+// The event that three bytes are of.
+impl TryFrom<[u8; 3]> for Event {
+    type Error = UnknownKind;
+
+    ghost try_from_gives = { λ bytes r. r ≡ read_of bytes };
+
+    fn try_from(bytes: [u8; 3]) -> Result<Event, UnknownKind> {
+        match bytes {
+            [0, i, j] => Ok(Event::Release(i, j)),
+            [1, i, j] => Ok(Event::Press(i, j)),
+            [kind, _, _] => Err(UnknownKind { kind }),
         }
-        if kind == 1 {
-            return Read::Event(Event::Press(i, j));
-        }
-        Read::Nothing
     }
 }
