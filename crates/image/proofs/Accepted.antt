@@ -30,18 +30,14 @@ use Rattle.image.specs.Proper.{closed, closed_all, Times, holdable, proper, prop
 use Rattle.image.specs.Table.{table_of, tree_in, longest_below, times_of}
 use Rattle.lists.specs.Lists.{every}
 use Rattle.lists.proofs.Laws.{both_true, every_head}
-use Rattle.refusal.specs.Verdict.{first_fault}
+use Rattle.std.specs.Prelude.{Option, Some, None, Ok}
+use Rattle.refusal.specs.Verdict.{fine, first_fault}
 use Rattle.image.specs.Check.{head_fault, cell_fault, record_fault, body_fault, fault_of, check_of}
 use Rattle.image.specs.Sound.{Sound, Meant}
 use Rattle.image.specs.Use.{area_of, source_of}
 use Rattle.image.specs.declared.words.Shape.{Shape}
 use Rattle.image.specs.declared.record.Action.{Action as Coded}
 use Rattle.image.specs.declared.record.Action.TheVariants as code
-use Rattle.image.specs.declared.record.Cell.{Cell}
-use Rattle.image.specs.declared.record.Cell.TheVariants as cell
-use Rattle.image.specs.declared.record.Entry.TheVariants as entry
-use Rattle.refusal.specs.declared.Verdict.TheVariants.{Fine}
-use Rattle.image.specs.declared.rules.Checked.TheVariants.{Accepted}
 use Rattle.image.specs.declared.areas.Source.TheVariants.{Operator, BuiltIn}
 use Rattle.refusal.proofs.Verdicts.{rule_fine, or_fine, fine_all}
 use Rattle.image.proofs.Said.{action_one}
@@ -54,7 +50,7 @@ use Rattle.image.proofs.RecordRules.{good}
 use Rattle.image.proofs.Chosen.{area_accepted, operator_chosen, built_in_chosen}
 pub use Rattle.image.proofs.Entries.{entries_step, length_entries, all_head, all_tail, named_step, named_none}
 
-sound : (img : List ℕ) → fault_of img ≡ Fine → Sound img
+sound : (img : List ℕ) → fault_of img ≡ fine → Sound img
 unfolding fault_of body_fault
 sound img e =
     let p = or_fine (head_fault img (eqb (length img) (size_of img))) (body_fault img) (rule_fine _ refusal.Short 0 _ e).1 in
@@ -65,22 +61,22 @@ sound img e =
       records = λ n l. good img n l (fine_all (record_fault img) (records_of img) q.1 n l);
     }
 
-pub accepted : (img : List ℕ) (s : Shape) → check_of img ≡ Accepted s → (s ≡ shape_of img) × Sound img
+pub accepted : (img : List ℕ) (s : Shape) → check_of img ≡ Ok s → (s ≡ shape_of img) × Sound img
 accepted img s e =
     let h = fault_fine img s e in
     (h.1, sound img h.0)
 
-area_sound : (area : List ℕ) (s : Shape) → area_of area ≡ Accepted s → (size_of area ≤ length area) × Sound (take (size_of area) area)
+area_sound : (area : List ℕ) (s : Shape) → area_of area ≡ Ok s → (size_of area ≤ length area) × Sound (take (size_of area) area)
 area_sound area s e =
     let h = area_accepted area s e in
     (h.0, (accepted (take (size_of area) area) s h.1).1)
 
-pub operator_sound : (o b : List ℕ) (k : ℕ) → source_of o b ≡ Operator k → (k ≤ length o) × Sound (take k o)
+pub operator_sound : (o b : List ℕ) (k : ℕ) → source_of o b ≡ Ok (Operator k) → (k ≤ length o) × Sound (take k o)
 operator_sound o b k e =
     let h = operator_chosen o b k e in
     rw h.long (area_sound o h.shape h.is)
 
-pub built_in_sound : (o b : List ℕ) (k : ℕ) → source_of o b ≡ BuiltIn k → (k ≤ length b) × Sound (take k b)
+pub built_in_sound : (o b : List ℕ) (k : ℕ) → source_of o b ≡ Ok (BuiltIn k) → (k ≤ length b) × Sound (take k b)
 built_in_sound o b k e =
     let h = built_in_chosen o b k e in
     rw h.long (area_sound b h.shape h.is)
@@ -134,12 +130,12 @@ code_byte k e = below_byte k e
 mixed : (x a y b : ℕ) → x < a → y < b → x * b + y < a * b
 mixed x a y b h k = omega (arith, mul-le-mul_right b h)
 
-is_record : (t : Bool) (m n : ℕ) → cond t (cell.Record m) cell.Outside ≡ cell.Record n → (t ≡ true) × (n ≡ m)
+is_record : (t : Bool) (m n : ℕ) → cond t (Some m) None ≡ Some n → (t ≡ true) × (n ≡ m)
 is_record true m n e = (refl, cc)
 is_record false m n e = (cc, cc)
 
 -- where a cell of the table stands
-pub cell_place_lem : (img : List ℕ) (l r c n : ℕ) → cell_at img l r c ≡ cell.Record n → (cell_place img l r c < cells_of img) × (n ≡ cell_of img (cell_place img l r c))
+pub cell_place_lem : (img : List ℕ) (l r c n : ℕ) → cell_at img l r c ≡ Some n → (cell_place img l r c < cells_of img) × (n ≡ cell_of img (cell_place img l r c))
 unfolding cell_at
 cell_place_lem img l r c n e =
     let h = is_record (is_inside img l r c) (cell_of img (cell_place img l r c)) n e in
@@ -150,26 +146,26 @@ cell_place_lem img l r c n e =
     let hc = ltb-true c (columns_of img) in_rows.1 in
     (mixed (l * rows_of img + r) (layers_of img * rows_of img) c (columns_of img) (mixed l (layers_of img) r (rows_of img) hl hr) hc, h.1)
 
-pub cell_named : (img : List ℕ) (l r c n : ℕ) → Sound img → cell_at img l r c ≡ cell.Record n → n < records_of img
+pub cell_named : (img : List ℕ) (l r c n : ℕ) → Sound img → cell_at img l r c ≡ Some n → n < records_of img
 cell_named img l r c n s e =
     let h = cell_place_lem img l r c n e in
     omega (arith, h.1, s.cells (cell_place img l r c) h.0)
 
-is_word : (t : Bool) (m n : ℕ) → cond t (entry.Word m) entry.Outside ≡ entry.Word n → (t ≡ true) × (n ≡ m)
+is_word : (t : Bool) (m n : ℕ) → cond t (Some m) None ≡ Some n → (t ≡ true) × (n ≡ m)
 is_word true m n e = (refl, cc)
 is_word false m n e = (cc, cc)
 
-is_none : (t : Bool) (m : ℕ) → cond t (entry.Word m) entry.Outside ≡ entry.Outside → t ≡ false
+is_none : (t : Bool) (m : ℕ) → cond t (Some m) None ≡ None → t ≡ false
 is_none true m e = cc
 is_none false m e = refl
 
-pub entry_is : (img : List ℕ) (e k : ℕ) → entry_at img e ≡ entry.Word k → (e < entries_of img) × (k ≡ entry_of img e)
+pub entry_is : (img : List ℕ) (e k : ℕ) → entry_at img e ≡ Some k → (e < entries_of img) × (k ≡ entry_of img e)
 unfolding entry_at
 entry_is img e k h =
     let p = is_word (ltb e (entries_of img)) (entry_of img e) k h in
     (ltb-true e (entries_of img) p.0, p.1)
 
-pub entry_not : (img : List ℕ) (e : ℕ) → entry_at img e ≡ entry.Outside → entries_of img ≤ e
+pub entry_not : (img : List ℕ) (e : ℕ) → entry_at img e ≡ None → entries_of img ≤ e
 unfolding entry_at
 entry_not img e h = ltb-false e (entries_of img) (is_none (ltb e (entries_of img)) (entry_of img e) h)
 
@@ -267,12 +263,12 @@ unfolding longest_below
 longest_under f zero k h = absurd (not-suc-le-zero h)
 longest_under f (suc n) k h = ⊎_elim (λ e. rw e (omega arith)) (λ l. omega (arith, longest_under f n k l)) (eq-or-lt_of_le (le_of_suc-le-suc h))
 
-proper_in : (img : List ℕ) (x : Cell) → Sound img → ((n : ℕ) → x ≡ cell.Record n → longest (tree img n) ≤ (times_of img).first) → proper (tree_in img x) (times_of img) ≡ true
+proper_in : (img : List ℕ) (x : Option ℕ) → Sound img → ((n : ℕ) → x ≡ Some n → longest (tree img n) ≤ (times_of img).first) → proper (tree_in img x) (times_of img) ≡ true
 unfolding tree_in proper
-proper_in img (cell.Record n) s f = proper_tree img (times_of img) s n (f n refl)
-proper_in img cell.Outside s f = refl
+proper_in img (Some n) s f = proper_tree img (times_of img) s n (f n refl)
+proper_in img None s f = refl
 
-longest_cell : (img : List ℕ) (l r c n : ℕ) → cell_at img l r c ≡ cell.Record n → longest (tree img n) ≤ (times_of img).first
+longest_cell : (img : List ℕ) (l r c n : ℕ) → cell_at img l r c ≡ Some n → longest (tree img n) ≤ (times_of img).first
 unfolding times_of
 longest_cell img l r c n e =
     let h = cell_place_lem img l r c n e in

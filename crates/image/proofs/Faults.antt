@@ -2,33 +2,30 @@
 use Prim.Native.Nat.{ℕ}
 use mathlib.Core.List.{List}
 use mathlib.Core.Path.{◌≡◌, refl}
-use Rattle.refusal.specs.declared.Refusal.{Refusal}
-use Rattle.refusal.specs.declared.Verdict.{Verdict}
-use Rattle.refusal.specs.declared.Verdict.TheVariants.{Fine, Refused}
+use Rattle.std.specs.Prelude.{Ok, Err}
+use Rattle.refusal.specs.Verdict.{Verdict, fine, granted}
+use Rattle.refusal.specs.declared.Fault.{Fault}
 use Rattle.image.specs.Words.{shape_of}
-use Rattle.image.specs.Check.{fault_of, answer, check_of}
+use Rattle.image.specs.Check.{fault_of, check_of}
 use Rattle.image.specs.declared.words.Shape.{Shape}
-use Rattle.image.specs.declared.rules.Checked.TheVariants as checked
 
-is_accepted : (f : Verdict) (s t : Shape) → answer f s ≡ checked.Accepted t → (f ≡ Fine) × (t ≡ s)
-unfolding answer
-is_accepted Fine s t e = (refl, cc)
-is_accepted (Refused r p) s t e = (cc, cc)
+is_accepted : (f : Verdict) (s t : Shape) → granted f s ≡ Ok t → (f ≡ fine) × (t ≡ s)
+is_accepted (Ok u) s t e = (refl, cc)
+is_accepted (Err g) s t e = (cc, cc)
 
-is_refused : (f : Verdict) (s : Shape) (r : Refusal) (p : ℕ) → answer f s ≡ checked.Refused r p → f ≡ Refused r p
-unfolding answer
-is_refused Fine s r p e = cc
-is_refused (Refused q k) s r p e = cc
+is_refused : (f : Verdict) (s : Shape) (g : Fault) → granted f s ≡ Err g → f ≡ Err g
+is_refused (Ok u) s g e = cc
+is_refused (Err h) s g e = cc
 
 module _ (img : List ℕ) where
-  pub fault_fine : (s : Shape) → check_of img ≡ checked.Accepted s → (fault_of img ≡ Fine) × (s ≡ shape_of img)
+  pub fault_fine : (s : Shape) → check_of img ≡ Ok s → (fault_of img ≡ fine) × (s ≡ shape_of img)
   unfolding check_of
   fault_fine s e = is_accepted (fault_of img) (shape_of img) s e
 
-  pub fault_refused : (r : Refusal) (p : ℕ) → check_of img ≡ checked.Refused r p → fault_of img ≡ Refused r p
+  pub fault_refused : (g : Fault) → check_of img ≡ Err g → fault_of img ≡ Err g
   unfolding check_of
-  fault_refused r p e = is_refused (fault_of img) (shape_of img) r p e
+  fault_refused g e = is_refused (fault_of img) (shape_of img) g e
 
-  pub check_fine : fault_of img ≡ Fine → check_of img ≡ checked.Accepted (shape_of img)
-  unfolding check_of answer
+  pub check_fine : fault_of img ≡ fine → check_of img ≡ Ok (shape_of img)
+  unfolding check_of
   check_fine e = rw e

@@ -15,7 +15,7 @@ use Rattle.image.specs.Words.{version_of, records_of, records_start, list_start,
 use Rattle.image.specs.Check.{within, counts_good, offsets_good, header_good, head_fault, cell_fault}
 use Rattle.image.specs.Sound.{Framed}
 use Rattle.image.specs.declared.words.Shape.{Shape}
-use Rattle.refusal.specs.declared.Verdict.TheVariants.{Fine, Refused}
+use Rattle.refusal.specs.Verdict.{fine, refused}
 use Rattle.refusal.proofs.Verdicts.{rule_no, rule_yes, rule_fine}
 
 -- what the header's rules say
@@ -55,13 +55,13 @@ pub small : (img : List ℕ) (s : Shape) → Framed img → s ≡ shape_of img �
 small img s f e = few_cells s (rw e (record { layers = f.layers; rows = f.rows; columns = f.columns; records = f.records; entries = f.entries }))
 
 -- no fault in the header: its rules hold, and the length is right
-pub headed : (img : List ℕ) (long : Bool) → head_fault img long ≡ Fine → (header_good (version_of img) (shape_of img) ≡ true) × (long ≡ true)
+pub headed : (img : List ℕ) (long : Bool) → head_fault img long ≡ fine → (header_good (version_of img) (shape_of img) ≡ true) × (long ≡ true)
 unfolding head_fault
 headed img long e =
     let h = rule_fine _ refusal.Header 0 _ e in
-    (h.0, (rule_fine long refusal.Length 0 Fine h.1).0)
+    (h.0, (rule_fine long refusal.Length 0 fine h.1).0)
 
-pub framed : (img : List ℕ) → head_fault img (eqb (length img) (size_of img)) ≡ Fine → Framed img
+pub framed : (img : List ℕ) → head_fault img (eqb (length img) (size_of img)) ≡ fine → Framed img
 unfolding header_good offsets_good
 framed img e =
     let h = headed img _ e in
@@ -80,17 +80,17 @@ framed img e =
     }
 
 -- a cell's rule
-pub cell_bad : (img : List ℕ) (i : ℕ) → records_of img ≤ cell_of img i → cell_fault img i ≡ Refused refusal.Cell i
+pub cell_bad : (img : List ℕ) (i : ℕ) → records_of img ≤ cell_of img i → cell_fault img i ≡ refused refusal.Cell i
 unfolding cell_fault
-cell_bad img i h = sym (rule_no _ refusal.Cell i Fine (le-ltb (cell_of img i) (records_of img) h))
+cell_bad img i h = sym (rule_no _ refusal.Cell i fine (le-ltb (cell_of img i) (records_of img) h))
 
-pub cell_fine : (img : List ℕ) (i : ℕ) → cell_of img i < records_of img → cell_fault img i ≡ Fine
+pub cell_fine : (img : List ℕ) (i : ℕ) → cell_of img i < records_of img → cell_fault img i ≡ fine
 unfolding cell_fault
-cell_fine img i h = sym (rule_yes _ refusal.Cell i Fine (lt-ltb (cell_of img i) (records_of img) h) refl)
+cell_fine img i h = sym (rule_yes _ refusal.Cell i fine (lt-ltb (cell_of img i) (records_of img) h) refl)
 
-pub cell_kept : (img : List ℕ) (i : ℕ) → cell_fault img i ≡ Fine → cell_of img i < records_of img
+pub cell_kept : (img : List ℕ) (i : ℕ) → cell_fault img i ≡ fine → cell_of img i < records_of img
 unfolding cell_fault
-cell_kept img i e = ltb-true (cell_of img i) (records_of img) (rule_fine _ refusal.Cell i Fine e).0
+cell_kept img i e = ltb-true (cell_of img i) (records_of img) (rule_fine _ refusal.Cell i fine e).0
 
 -- a cell's place fits 64 bits, since rows and columns are words
 pub room : (l m r n : ℕ) → l < 65536 → m < 65536 → r < 65536 → n < 65536 → (l * m ≤ 2 ^ 32) × ((l * m + r) * n ≤ 2 ^ 33 * 65536)

@@ -17,14 +17,12 @@ use Rattle.image.specs.Inside.{Placed, Formed, children_of}
 use Rattle.image.specs.Words.{records_of, entries_of, field_of, entries, word_at, words_from}
 use Rattle.image.specs.Record.{action_of, action_at, codes_in, children_in, list_end}
 use Rattle.image.specs.Tree.{Action, end, ◌&◌, named, meaning, tree, open?, some_open, shut_but_last, opens_last, weight, weights}
-use Rattle.refusal.specs.Verdict.{rule}
+use Rattle.refusal.specs.Verdict.{Verdict, fine, refused, rule}
 use Rattle.image.specs.Check.{form, form_good, record_fault}
 use Rattle.image.specs.declared.children.Children.{Children}
 use Rattle.image.specs.Sound.{Good}
 use Rattle.image.specs.declared.record.Action.{Action as Coded}
 use Rattle.image.specs.declared.record.Action.TheVariants as code
-use Rattle.refusal.specs.declared.Verdict.{Verdict}
-use Rattle.refusal.specs.declared.Verdict.TheVariants.{Fine, Refused}
 use Rattle.refusal.proofs.Verdicts.{rule_no, rule_yes, rule_fine, rule_with}
 use Rattle.image.proofs.Tests.{and-true, and-false, or_false, not_or}
 use Rattle.image.proofs.Entries.{length_entries, length_words, words_last, all_two}
@@ -61,10 +59,10 @@ abbrev rules_past : List ℕ → ℕ → Coded → Verdict
 rules_past img n x =
     rule (every legal (codes_in img x)) refusal.Code n
     (rule (every (λ k. ltb k n) (children_in img x)) refusal.Child n
-    (rule (opens_last (meaning img (tree img) n x)) refusal.Nested n (rule (leb (weight (meaning img (tree img) n x)) 64) refusal.Weight n Fine)))
+    (rule (opens_last (meaning img (tree img) n x)) refusal.Nested n (rule (leb (weight (meaning img (tree img) n x)) 64) refusal.Weight n fine)))
 
 -- the form of record n is bad
-pub form_bad : (img : List ℕ) (n : ℕ) → form_good img n ≡ false → Refused refusal.Record n ≡ record_fault img n
+pub form_bad : (img : List ℕ) (n : ℕ) → form_good img n ≡ false → refused refusal.Record n ≡ record_fault img n
 unfolding record_fault
 form_bad img n f = rule_no _ _ _ _ f
 
@@ -72,37 +70,37 @@ form_bad img n f = rule_no _ _ _ _ f
 module _ (img : List ℕ) (n : ℕ) (f : Formed img n) where
   rules_past_lem : (x : Coded) → action_at img n ≡ x → rules_past img n x ≡ record_fault img n
   unfolding record_fault
-  rules_past_lem x e = rw (← e) (rule_yes _ _ _ _ f.form (rule_with _ refusal.Code n _ _ (λ _. rule_with _ refusal.Child n _ _ (λ l. ap (λ t. rule (opens_last t) refusal.Nested n (rule (leb (weight t) 64) refusal.Weight n Fine)) (sym (tree_step img n l))))))
+  rules_past_lem x e = rw (← e) (rule_yes _ _ _ _ f.form (rule_with _ refusal.Code n _ _ (λ _. rule_with _ refusal.Child n _ _ (λ l. ap (λ t. rule (opens_last t) refusal.Nested n (rule (leb (weight t) 64) refusal.Weight n fine)) (sym (tree_step img n l))))))
 
-  pub code_rules : (k : ℕ) → action_at img n ≡ code.KeyCode k → rule (legal k) refusal.Code n Fine ≡ record_fault img n
+  pub code_rules : (k : ℕ) → action_at img n ≡ code.KeyCode k → rule (legal k) refusal.Code n fine ≡ record_fault img n
   unfolding rule codes_in children_in meaning opens_last weight
   code_rules k e = rw (← and-true (legal k)) (rules_past_lem (code.KeyCode k) e)
 
-  pub codes_rules : (a b : ℕ) → action_at img n ≡ code.MultipleKeyCodes a b → rule (every legal (entries img a b)) refusal.Code n (rule (leb (1 + b) 64) refusal.Weight n Fine) ≡ record_fault img n
+  pub codes_rules : (a b : ℕ) → action_at img n ≡ code.MultipleKeyCodes a b → rule (every legal (entries img a b)) refusal.Code n (rule (leb (1 + b) 64) refusal.Weight n fine) ≡ record_fault img n
   unfolding rule codes_in children_in meaning opens_last weight
-  codes_rules a b e = ap (λ k. rule (every legal (entries img a b)) refusal.Code n (rule (leb (1 + k) 64) refusal.Weight n Fine)) (sym (length_entries img a b)) ∙ rules_past_lem (code.MultipleKeyCodes a b) e
+  codes_rules a b e = ap (λ k. rule (every legal (entries img a b)) refusal.Code n (rule (leb (1 + k) 64) refusal.Weight n fine)) (sym (length_entries img a b)) ∙ rules_past_lem (code.MultipleKeyCodes a b) e
 
-  actions_rules : (a b : ℕ) → action_at img n ≡ code.MultipleActions a b → rule (every (λ k. ltb k n) (entries img a b)) refusal.Child n (rule (shut_but_last (named (tree img) (entries img a b))) refusal.Nested n (rule (leb (1 + weights (named (tree img) (entries img a b))) 64) refusal.Weight n Fine)) ≡ record_fault img n
+  actions_rules : (a b : ℕ) → action_at img n ≡ code.MultipleActions a b → rule (every (λ k. ltb k n) (entries img a b)) refusal.Child n (rule (shut_but_last (named (tree img) (entries img a b))) refusal.Nested n (rule (leb (1 + weights (named (tree img) (entries img a b))) 64) refusal.Weight n fine)) ≡ record_fault img n
   unfolding rule codes_in children_in meaning opens_last weight
   actions_rules a b e = rules_past_lem (code.MultipleActions a b) e
 
-  pub empty_rules : (a b : ℕ) → action_at img n ≡ code.MultipleActions a b → b ≡ 0 → Fine ≡ record_fault img n
+  pub empty_rules : (a b : ℕ) → action_at img n ≡ code.MultipleActions a b → b ≡ 0 → fine ≡ record_fault img n
   unfolding rule entries named shut_but_last weight
   empty_rules a b e z = rw z at (actions_rules a b e)
 
-  hold_tap_rules : (t h p : ℕ) → action_at img n ≡ code.HoldTap t h p → rule (ltb h n && ltb p n) refusal.Child n (rule (not (open? (tree img h)) && not (open? (tree img p))) refusal.Nested n (rule (leb (1 + (weight (tree img h) + weight (tree img p))) 64) refusal.Weight n Fine)) ≡ record_fault img n
+  hold_tap_rules : (t h p : ℕ) → action_at img n ≡ code.HoldTap t h p → rule (ltb h n && ltb p n) refusal.Child n (rule (not (open? (tree img h)) && not (open? (tree img p))) refusal.Nested n (rule (leb (1 + (weight (tree img h) + weight (tree img p))) 64) refusal.Weight n fine)) ≡ record_fault img n
   unfolding rule codes_in children_in meaning opens_last weight
   hold_tap_rules t h p e = rw (← and-true (ltb p n)) (rules_past_lem (code.HoldTap t h p) e)
 
-  pub no_rules : (field_of img n 0 ≡ 2 → ⊥) → (field_of img n 0 ≡ 3 → ⊥) → (field_of img n 0 ≡ 4 → ⊥) → (field_of img n 0 ≡ 7 → ⊥) → Fine ≡ record_fault img n
+  pub no_rules : (field_of img n 0 ≡ 2 → ⊥) → (field_of img n 0 ≡ 3 → ⊥) → (field_of img n 0 ≡ 4 → ⊥) → (field_of img n 0 ≡ 7 → ⊥) → fine ≡ record_fault img n
   unfolding rule codes_in children_in meaning opens_last weight
   no_rules h2 h3 h4 h7 =
-      by_kind (λ x. Fine ≡ rules_past img n x) (field_of img n 0) (field_of img n 2) (field_of img n 4) (field_of img n 6)
+      by_kind (λ x. fine ≡ rules_past img n x) (field_of img n 0) (field_of img n 2) (field_of img n 4) (field_of img n 6)
       (λ _. refl) (λ _. refl) (λ e. absurd (h2 e)) (λ e. absurd (h3 e)) (λ e. absurd (h4 e)) (λ _. refl) (λ _. refl) (λ e. absurd (h7 e))
       ∙ rules_past_lem _ (action_inside img n f.inside)
 
 -- a record with no fault
-pub good : (img : List ℕ) (n : ℕ) → n < records_of img → record_fault img n ≡ Fine → Good img n
+pub good : (img : List ℕ) (n : ℕ) → n < records_of img → record_fault img n ≡ fine → Good img n
 unfolding record_fault
 good img n h e =
     let e1 = rule_fine _ refusal.Record n _ e in
@@ -127,7 +125,7 @@ module _ (img : List ℕ) (r l n first count : ℕ) (p : Placed img r l) (f : Fo
       let listed : first + count ≤ entries_of img = subst (λ x. list_end x ≤ entries_of img) is (listed_inside img n f.inside f.form) in
       omega (arith, listed, length_words img (l + 2 * first) (count - 1), p.framed.entries)
 
-  all_rules : rule (every (λ k. ltb k n) (most_of img l first count ++ last_of img l first count ∷ [])) refusal.Child n (rule (shut_but_last (named (tree img) (most_of img l first count ++ last_of img l first count ∷ []))) refusal.Nested n (rule (leb (1 + weights (named (tree img) (most_of img l first count ++ last_of img l first count ∷ []))) 64) refusal.Weight n Fine)) ≡ record_fault img n
+  all_rules : rule (every (λ k. ltb k n) (most_of img l first count ++ last_of img l first count ∷ [])) refusal.Child n (rule (shut_but_last (named (tree img) (most_of img l first count ++ last_of img l first count ∷ []))) refusal.Nested n (rule (leb (1 + weights (named (tree img) (most_of img l first count ++ last_of img l first count ∷ []))) 64) refusal.Weight n fine)) ≡ record_fault img n
   all_rules = rw (entries_at img r l first count p ∙ words_last img (l + 2 * first) count some) at (actions_rules img n f first count is)
 
   module _ {most last : Children} (em : most ≡ children_of img n (most_of img l first count)) (el : last ≡ children_of img n (words_from img (l + 2 * first + 2 * (count - 1)) 1)) where
@@ -138,10 +136,10 @@ module _ (img : List ℕ) (r l n first count : ℕ) (p : Placed img r l) (f : Fo
     pub sums_small : (most.weight ≤ 65536) × (last.weight ≤ 64)
     sums_small = (omega (arith, few, sum_few img n (most_of img l first count) most f em), omega (arith, sum_few img n (last_of img l first count ∷ []) last f one))
 
-    pub most_high : most.lower ≡ false → Refused refusal.Child n ≡ record_fault img n
+    pub most_high : most.lower ≡ false → refused refusal.Child n ≡ record_fault img n
     most_high h = rule_no _ _ _ _ (every_last (λ k. ltb k n) (most_of img l first count) (last_of img l first count) ∙ rw (sum_high img n (most_of img l first count) most em h)) ∙ all_rules
 
-    pub last_high : last.lower ≡ false → Refused refusal.Child n ≡ record_fault img n
+    pub last_high : last.lower ≡ false → refused refusal.Child n ≡ record_fault img n
     last_high h = rule_no _ _ _ _ (every_last (λ k. ltb k n) (most_of img l first count) (last_of img l first count) ∙ rw (sym (every_one (λ k. ltb k n) (last_of img l first count)) ∙ sum_high img n (last_of img l first count ∷ []) last one h) (and-false (every (λ k. ltb k n) (most_of img l first count)))) ∙ all_rules
 
     module _ (a : most.lower ≡ true) (b : last.lower ≡ true) where
@@ -154,14 +152,14 @@ module _ (img : List ℕ) (r l n first count : ℕ) (p : Placed img r l) (f : Fo
       lower_all : every (λ k. ltb k n) (most_of img l first count ++ last_of img l first count ∷ []) ≡ true
       lower_all = every_last (λ k. ltb k n) (most_of img l first count) (last_of img l first count) ∙ rw (x.all, sym (every_one (λ k. ltb k n) (last_of img l first count)) ∙ y.all)
 
-      pub sums_open : most.opens ≡ true → Refused refusal.Nested n ≡ record_fault img n
+      pub sums_open : most.opens ≡ true → refused refusal.Nested n ≡ record_fault img n
       sums_open h = rule_yes _ _ _ _ lower_all (rule_no _ _ _ _ (shut_last (tree img) (most_of img l first count) (last_of img l first count) ∙ ap not (sym x.opens ∙ h))) ∙ all_rules
 
-      pub sums_weigh : most.opens ≡ false → rule (leb (1 + (most.weight + last.weight)) 64) refusal.Weight n Fine ≡ record_fault img n
+      pub sums_weigh : most.opens ≡ false → rule (leb (1 + (most.weight + last.weight)) 64) refusal.Weight n fine ≡ record_fault img n
       unfolding named weight
       sums_weigh h =
           let w : most.weight + last.weight ≡ weights (named (tree img) (most_of img l first count ++ last_of img l first count ∷ [])) = omega (arith, weights_last (tree img) (most_of img l first count) (last_of img l first count), x.weight, y.weight) in
-          rule_yes _ _ _ _ lower_all (rule_yes _ _ _ _ (shut_last (tree img) (most_of img l first count) (last_of img l first count) ∙ ap not (sym x.opens ∙ h)) (ap (λ w. rule (leb (1 + w) 64) refusal.Weight n Fine) w)) ∙ all_rules
+          rule_yes _ _ _ _ lower_all (rule_yes _ _ _ _ (shut_last (tree img) (most_of img l first count) (last_of img l first count) ∙ ap not (sym x.opens ∙ h)) (ap (λ w. rule (leb (1 + w) 64) refusal.Weight n fine) w)) ∙ all_rules
 
 -- a HoldTap, by what hold and tap come to
 shut_two : (h p : Action) → (not (open? h) && not (open? p)) ≡ not (some_open (h & (p & end)))
@@ -172,14 +170,14 @@ module _ (img : List ℕ) (r l n : ℕ) (p : Placed img r l) (f : Formed img n) 
   two : sum ≡ children_of img n (field_of img n 4 ∷ field_of img n 6 ∷ [])
   two = es ∙ ap (children_of img n) (pair_words img r l n p)
 
-  two_rules : rule (ltb (field_of img n 4) n && ltb (field_of img n 6) n) refusal.Child n (rule (not (open? (tree img (field_of img n 4))) && not (open? (tree img (field_of img n 6)))) refusal.Nested n (rule (leb (1 + (weight (tree img (field_of img n 4)) + weight (tree img (field_of img n 6)))) 64) refusal.Weight n Fine)) ≡ record_fault img n
+  two_rules : rule (ltb (field_of img n 4) n && ltb (field_of img n 6) n) refusal.Child n (rule (not (open? (tree img (field_of img n 4))) && not (open? (tree img (field_of img n 6)))) refusal.Nested n (rule (leb (1 + (weight (tree img (field_of img n 4)) + weight (tree img (field_of img n 6)))) 64) refusal.Weight n fine)) ≡ record_fault img n
   unfolding action_of
   two_rules = hold_tap_rules img n f (field_of img n 2) (field_of img n 4) (field_of img n 6) (action_inside img n f.inside ∙ rw is)
 
   pub pair_small : sum.weight ≤ 128
   pair_small = omega (arith, sum_few img n (field_of img n 4 ∷ field_of img n 6 ∷ []) sum f two)
 
-  pub pair_high : sum.lower ≡ false → Refused refusal.Child n ≡ record_fault img n
+  pub pair_high : sum.lower ≡ false → refused refusal.Child n ≡ record_fault img n
   pair_high h = rule_no _ _ _ _ (sym (all_two (λ k. ltb k n) _ _) ∙ sum_high img n (field_of img n 4 ∷ field_of img n 6 ∷ []) sum two h) ∙ two_rules
 
   module _ (low : sum.lower ≡ true) where
@@ -189,12 +187,12 @@ module _ (img : List ℕ) (r l n : ℕ) (p : Placed img r l) (f : Formed img n) 
     lower : (ltb (field_of img n 4) n && ltb (field_of img n 6) n) ≡ true
     lower = sym (all_two (λ k. ltb k n) _ _) ∙ known.all
 
-    pub pair_open : sum.opens ≡ true → Refused refusal.Nested n ≡ record_fault img n
+    pub pair_open : sum.opens ≡ true → refused refusal.Nested n ≡ record_fault img n
     unfolding named
     pair_open h = rule_yes _ _ _ _ lower (rule_no _ _ _ _ (shut_two _ _ ∙ ap not (sym known.opens ∙ h))) ∙ two_rules
 
-    pub pair_weigh : sum.opens ≡ false → rule (leb (1 + sum.weight) 64) refusal.Weight n Fine ≡ record_fault img n
+    pub pair_weigh : sum.opens ≡ false → rule (leb (1 + sum.weight) 64) refusal.Weight n fine ≡ record_fault img n
     unfolding named weight
     pair_weigh h =
         let w : sum.weight ≡ weight (tree img (field_of img n 4)) + weight (tree img (field_of img n 6)) = omega (arith, known.weight) in
-        rule_yes _ _ _ _ lower (rule_yes _ _ _ _ (shut_two _ _ ∙ ap not (sym known.opens ∙ h)) (ap (λ w. rule (leb (1 + w) 64) refusal.Weight n Fine) w)) ∙ two_rules
+        rule_yes _ _ _ _ lower (rule_yes _ _ _ _ (shut_two _ _ ∙ ap not (sym known.opens ∙ h)) (ap (λ w. rule (leb (1 + w) 64) refusal.Weight n fine) w)) ∙ two_rules

@@ -1,14 +1,8 @@
--- Laws of two tests, and of the answer to a verdict.
+-- Laws of two tests.
 -- Assumes nothing.
 use mathlib.Core.Path.{◌≡◌, refl}
 use mathlib.Core.Bool.{Bool, true, false, not, ◌&&◌, ◌||◌}
 use Prim.Native.Nat.{ℕ}
-use Rattle.refusal.specs.declared.Refusal.{Refusal}
-use Rattle.image.specs.Check.{answer}
-use Rattle.image.specs.declared.words.Shape.{Shape}
-use Rattle.image.specs.declared.rules.Checked.TheVariants as checked
-use Rattle.refusal.specs.declared.Verdict.{Verdict}
-use Rattle.refusal.specs.declared.Verdict.TheVariants.{Fine, Refused}
 
 -- two tests
 pub and_no : (a b : Bool) → a ≡ false → false ≡ (a && b)
@@ -37,11 +31,3 @@ pub or_false : (a : Bool) → (a || false) ≡ a
 or_false true = refl
 or_false false = refl
 
--- the answer of the check
-pub answer_fine : (f : Verdict) (s : Shape) → f ≡ Fine → checked.Accepted s ≡ answer f s
-unfolding answer
-answer_fine f s e = rw e
-
-pub answer_at : (f : Verdict) (s : Shape) (r : Refusal) (p : ℕ) → f ≡ Refused r p → checked.Refused r p ≡ answer f s
-unfolding answer
-answer_at f s r p e = rw e

@@ -1,21 +1,16 @@
 -- The check of a table image: document 01, "The table image" and "Refusal numbers" 1 to 9, in image order. The first
 -- fault decides: rules in their order, and the numbers of the refusals, are the crate refusal's.
 -- Assumes nothing.
-use Rattle.std.specs.Prelude.{ℕ, ◌+◌, ◌*◌, List, Bool, cond, ◌&&◌, length, eqb, leb, ltb}
+use Rattle.std.specs.Prelude.{ℕ, ◌+◌, ◌*◌, List, Bool, cond, ◌&&◌, length, eqb, leb, ltb, Result}
 use Rattle.lists.specs.Lists.{every}
 use Rattle.codes.specs.Codes.{legal}
-use Rattle.refusal.specs.Verdict.{rule, or_else, first_fault}
-use Rattle.refusal.specs.Said.{Said, said, told_in}
-use Rattle.refusal.specs.declared.Told.{Told}
-use Rattle.refusal.specs.declared.Verdict.{Verdict}
-use Rattle.refusal.specs.declared.Verdict.TheVariants.{Fine, Refused}
+use Rattle.refusal.specs.Verdict.{Verdict, fine, rule, or_else, first_fault, granted}
+use Rattle.refusal.specs.declared.Fault.{Fault}
 use Rattle.refusal.specs.declared.Refusal.TheVariants.{Short, Header, Length, Cell, Record, Code, Child, Nested, Weight}
 use Rattle.image.specs.Words.{version_of, records_of, entries_of, cells_of, size_of, shape_of, cell_of, field_of}
 use Rattle.image.specs.Record.{action_at, codes_in, children_in}
 use Rattle.image.specs.Tree.{tree, weight, opens_last}
 use Rattle.image.specs.declared.words.Shape.{Shape}
-use Rattle.image.specs.declared.rules.Checked.{Checked}
-use Rattle.image.specs.declared.rules.Checked.TheVariants as checked
 
 -- lo..hi
 unfoldable pub within : ℕ → ℕ → ℕ → Bool
@@ -41,11 +36,11 @@ header_good version s = counts_good version s && offsets_good s
 
 -- 2 Header, then 3 Length; `long` says whether the length is right
 unfoldable pub head_fault : List ℕ → Bool → Verdict
-head_fault img long = rule (header_good (version_of img) (shape_of img)) Header 0 (rule long Length 0 Fine)
+head_fault img long = rule (header_good (version_of img) (shape_of img)) Header 0 (rule long Length 0 fine)
 
 -- 4 Cell: cell i names a record
 unfoldable pub cell_fault : List ℕ → ℕ → Verdict
-cell_fault img i = rule (ltb (cell_of img i) (records_of img)) Cell i Fine
+cell_fault img i = rule (ltb (cell_of img i) (records_of img)) Cell i fine
 
 -- 5 Record: a kind with the words a, b, c, where the list has so many entries. Kinds 0 and 1 use no word, 2 uses a, 3 and
 -- 4 use a and b, whose sum is at most E, 5 and 6 use a, 7 uses all; a kind above 7 has no form. Unused words are zero
@@ -65,7 +60,7 @@ record_fault img n =
     rule (form_good img n) Record n
     (rule (every legal (codes_in img (action_at img n))) Code n
     (rule (every (λ k. ltb k n) (children_in img (action_at img n))) Child n
-    (rule (opens_last (tree img n)) Nested n (rule (leb (weight (tree img n)) 64) Weight n Fine))))
+    (rule (opens_last (tree img n)) Nested n (rule (leb (weight (tree img n)) 64) Weight n fine))))
 
 -- cells from the first, then records from 0 up
 unfoldable pub body_fault : List ℕ → Verdict
@@ -75,23 +70,13 @@ body_fault img = or_else (first_fault (cell_fault img) 0 (cells_of img)) (first_
 unfoldable pub fault_of : List ℕ → Verdict
 fault_of img = rule (leb 16 (length img)) Short 0 (or_else (head_fault img (eqb (length img) (size_of img))) (body_fault img))
 
-unfoldable pub answer : Verdict → Shape → Checked
-answer Fine s = checked.Accepted s
-answer (Refused refusal place) s = checked.Refused refusal place
-
 -- the whole check: the header's numbers, or the first fault
-unfoldable pub check_of : List ℕ → Checked
-check_of img = answer (fault_of img) (shape_of img)
+abbrev pub Checked : Type 0
+Checked = Result Shape Fault
 
--- the header's numbers where there are none
+unfoldable pub check_of : List ℕ → Checked
+check_of img = granted (fault_of img) (shape_of img)
+
+-- the header's numbers where there are none: the values of a refused answer
 abbrev pub no_shape : Shape
 no_shape = record { layers = 0; rows = 0; columns = 0; records = 0; entries = 0; records_at = 0; list_at = 0 }
-
--- what is said of the answer: number 0 at place 0 and the header's numbers; or the refusal's number and its place
-abbrev pub said_of : Checked → Said Shape
-said_of (checked.Accepted s) = said Fine s
-said_of (checked.Refused refusal place) = said (Refused refusal place) no_shape
-
--- the paper's number and place of the answer, 0 and 0 where the image is accepted
-abbrev pub told_of : Checked → Told
-told_of x = told_in (said_of x)

@@ -1,13 +1,9 @@
 -- What a record says: document 01, "The table image", the table of kinds. And what the lookups answer.
 -- Assumes nothing.
-use Rattle.std.specs.Prelude.{ℕ, ◌+◌, ◌*◌, List, [], ◌∷◌, Bool, cond, ◌&&◌, eqb, ltb}
+use Rattle.std.specs.Prelude.{ℕ, ◌+◌, ◌*◌, List, [], ◌∷◌, Bool, cond, ◌&&◌, eqb, ltb, Option, Some, None}
 use Rattle.image.specs.Words.{layers_of, rows_of, columns_of, records_of, entries_of, cell_of, field_of, entry_of, entries}
 use Rattle.image.specs.declared.record.Action.{Action}
 use Rattle.image.specs.declared.record.Action.TheVariants.{NoOp, Trans, KeyCode, MultipleKeyCodes, MultipleActions, Layer, DefaultLayer, HoldTap}
-use Rattle.image.specs.declared.record.Cell.{Cell}
-use Rattle.image.specs.declared.record.Cell.TheVariants as cell
-use Rattle.image.specs.declared.record.Entry.{Entry}
-use Rattle.image.specs.declared.record.Entry.TheVariants as entry
 
 -- the action of a kind with the words a, b, c; a kind above 7 is none
 unfoldable pub action_of : ℕ → ℕ → ℕ → ℕ → Action
@@ -61,22 +57,22 @@ list_end (Layer number) = 0
 list_end (DefaultLayer number) = 0
 list_end (HoldTap timeout hold tap) = 0
 
--- the record that a cell names, by layer, row and column
+-- the record that a cell names, by layer, row and column; outside the table there is none
 abbrev pub cell_place : List ℕ → ℕ → ℕ → ℕ → ℕ
 cell_place img layer row column = (layer * rows_of img + row) * columns_of img + column
 
 abbrev pub is_inside : List ℕ → ℕ → ℕ → ℕ → Bool
 is_inside img layer row column = ltb layer (layers_of img) && (ltb row (rows_of img) && ltb column (columns_of img))
 
-unfoldable pub cell_at : List ℕ → ℕ → ℕ → ℕ → Cell
+unfoldable pub cell_at : List ℕ → ℕ → ℕ → ℕ → Option ℕ
 cell_at img layer row column =
-    cond (is_inside img layer row column) (cell.Record (cell_of img (cell_place img layer row column))) cell.Outside
+    cond (is_inside img layer row column) (Some (cell_of img (cell_place img layer row column))) None
 
--- an entry of the list
-unfoldable pub entry_at : List ℕ → ℕ → Entry
-entry_at img e = cond (ltb e (entries_of img)) (entry.Word (entry_of img e)) entry.Outside
+-- an entry of the list; past its end there is none
+unfoldable pub entry_at : List ℕ → ℕ → Option ℕ
+entry_at img e = cond (ltb e (entries_of img)) (Some (entry_of img e)) None
 
--- what the lookups' answers hold, case by case. An action: the number of its kind, and its words a, b, c, zero where unused
+-- what an action holds, case by case: the number of its kind, and its words a, b, c, zero where unused
 pub record RecordWords : Type 0 where
   pub kind : ℕ
   pub a : ℕ
@@ -92,13 +88,3 @@ action_words (MultipleActions first count) = record { kind = 4; a = first; b = c
 action_words (Layer number) = record { kind = 5; a = number; b = 0; c = 0 }
 action_words (DefaultLayer number) = record { kind = 6; a = number; b = 0; c = 0 }
 action_words (HoldTap timeout hold tap) = record { kind = 7; a = timeout; b = hold; c = tap }
-
--- a cell: the number of the record that it names, or none
-abbrev pub cell_value : Cell → List ℕ
-cell_value (cell.Record n) = n ∷ []
-cell_value cell.Outside = []
-
--- an entry: its word, or none
-abbrev pub entry_value : Entry → List ℕ
-entry_value (entry.Word n) = n ∷ []
-entry_value entry.Outside = []

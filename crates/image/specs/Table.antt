@@ -1,13 +1,11 @@
 -- A table, read off an accepted image: layers, rows, columns, and the action of each cell. Outside the table it is NoOp
 -- (document 01, "Layout").
 -- Assumes nothing.
-use Rattle.std.specs.Prelude.{ℕ, zero, suc, max, List}
+use Rattle.std.specs.Prelude.{ℕ, zero, suc, max, List, Option, Some, None}
 use Rattle.image.specs.Words.{layers_of, rows_of, columns_of, cells_of, cell_of}
 use Rattle.image.specs.Record.{cell_at}
 use Rattle.image.specs.Tree.{Action, NoOp, tree, longest}
 use Rattle.image.specs.Proper.{Times}
-use Rattle.image.specs.declared.record.Cell.{Cell}
-use Rattle.image.specs.declared.record.Cell.TheVariants as cell
 
 pub record Table : Type 0 where
   pub layers : ℕ
@@ -16,9 +14,9 @@ pub record Table : Type 0 where
   pub cell : ℕ → ℕ → ℕ → Action
 
 -- the tree of the record that a cell names
-unfoldable pub tree_in : List ℕ → Cell → Action
-tree_in img (cell.Record n) = tree img n
-tree_in img cell.Outside = NoOp
+unfoldable pub tree_in : List ℕ → Option ℕ → Action
+tree_in img (Some n) = tree img n
+tree_in img None = NoOp
 
 abbrev pub table_of : List ℕ → Table
 table_of img =

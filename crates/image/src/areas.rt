@@ -3,19 +3,18 @@
 // Assumes nothing.
 ghost use Rattle.std.specs.Prelude.{◌≡◌};
 ghost use Rattle.image.specs.Words.{size_of};
-ghost use Rattle.image.specs.Use.{area_of, source_of, source_said, in_use, refusal_in};
+ghost use Rattle.image.specs.Use.{area_of, source_of, source_said, in_use, refusal_in_use};
 
-use super::header::head_fault;
-use super::rules::{Checked, answer_of, check};
-use super::words::{shape_of, word_or_zero};
-use refusal::{Refusal, Told, Verdict};
+use super::header::head_rules;
+use super::rules::check;
+use super::words::{Shape, shape_of, word_or_zero};
+use refusal::{Fault, Refusal, rule};
 
-// Which area holds the table in use, with the length of its image; or the operator's refusal.
-#[derive(Clone, Copy)]
+// Which area holds the table in use, with the length of its image.
+#[derive(Clone, Copy, PartialEq, Eq, Debug)]
 pub enum Source {
     Operator(usize),
     BuiltIn(usize),
-    Neither(Refusal, usize),
 }
 
 // The length of the image that an area's header tells of.
@@ -26,33 +25,26 @@ fn size_of(area: &[u8]) -> usize
 }
 
 // The check of an area: of the stretch that holds its image.
-fn check_area(area: &[u8]) -> Checked
+fn check_area(area: &[u8]) -> Result<Shape, Fault>
     ensures { result ≡ area_of area.now }
 {
-    if area.len() < 16 {
-        return Checked::Refused(Refusal::Short, 0);
-    }
+    rule(16 <= area.len(), Refusal::Short, 0)?;
     let s = shape_of(area);
     let size = s.list_at + 2 * s.entries;
-    let f = head_fault(area, s, size <= area.len());
-    let Verdict::Fine = f else {
-        return answer_of(f, s);
-    };
+    head_rules(area, s, size <= area.len())?;
     check(&area[..size])
 }
 
-// Where the table in use lies, or the refusal that document 01 asks for.
-pub fn source_of(operator: &[u8], built_in: &[u8]) -> Source
+// Where the table in use lies, or the operator's refusal where neither area is accepted.
+pub fn source_of(operator: &[u8], built_in: &[u8]) -> Result<Source, Fault>
     ensures { source_said result ≡ source_said (source_of operator.now built_in.now) }
 {
     match check_area(operator) {
-        Checked::Accepted(_) => Source::Operator(size_of(operator)),
-        Checked::Refused(refusal, place) => {
-            let Checked::Accepted(_) = check_area(built_in) else {
-                return Source::Neither(refusal, place);
-            };
-            Source::BuiltIn(size_of(built_in))
-        }
+        Ok(_) => Ok(Source::Operator(size_of(operator))),
+        Err(fault) => match check_area(built_in) {
+            Ok(_) => Ok(Source::BuiltIn(size_of(built_in))),
+            Err(_) => Err(fault),
+        },
     }
 }
 
@@ -61,28 +53,15 @@ pub fn in_use<'a>(operator: &'a [u8], built_in: &'a [u8]) -> &'a [u8]
     ensures { result.now ≡ in_use operator.now built_in.now }
 {
     match source_of(operator, built_in) {
-        Source::Operator(n) => &operator[..n],
-        Source::BuiltIn(n) => &built_in[..n],
-        Source::Neither(_, _) => &operator[..0],
+        Ok(Source::Operator(n)) => &operator[..n],
+        Ok(Source::BuiltIn(n)) => &built_in[..n],
+        Err(_) => &operator[..0],
     }
 }
 
-// The refusal of the table in use: the operator's where neither area is accepted, and number 0 at place 0 otherwise.
-pub fn refusal_in_use(operator: &[u8], built_in: &[u8]) -> Told
-    ensures { result ≡ refusal_in (source_of operator.now built_in.now) }
+// The refusal of the table in use: the operator's, where neither area is accepted.
+pub fn refusal_in_use(operator: &[u8], built_in: &[u8]) -> Option<Fault>
+    ensures { result ≡ refusal_in_use operator.now built_in.now }
 {
-    match source_of(operator, built_in) {
-        Source::Operator(_) => Told {
-            number: 0,
-            place: 0,
-        },
-        Source::BuiltIn(_) => Told {
-            number: 0,
-            place: 0,
-        },
-        Source::Neither(refusal, place) => Told {
-            number: refusal.number(),
-            place,
-        },
-    }
+    source_of(operator, built_in).err()
 }

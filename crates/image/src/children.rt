@@ -41,12 +41,6 @@ const NOT_LOWER: Children = Children {
     weight: 0,
 };
 
-fn either(a: bool, b: bool) -> bool
-    ensures { result ≡ (a || b) }
-{
-    if a { true } else { b }
-}
-
 // Record n, which is good, each word that it takes read once. The children of a MultipleActions are its entries, and those
 // of a HoldTap its own last two words, hold and tap.
 fn child_at(image: &[u8], records_at: usize, list_at: usize, n: usize) -> Child
@@ -96,19 +90,17 @@ fn weigh(
     // 1 for each
     let mut weight = count;
     let mut opens = false;
-    let mut i = 0;
-    while i < count {
+    for i in 0..count {
         let k = word(image, at + 2 * i) as usize;
         let it = child_at(image, records_at, list_at, k);
-        i += 1;
         if it.count == 0 {
             weight += it.b;
-            opens = either(opens, it.opens);
+            opens |= it.opens;
             continue;
         }
         let under = weigh(image, records_at, list_at, k, it.at, it.count);
         weight += under.weight;
-        opens = either(opens, either(it.opens, under.opens));
+        opens |= it.opens | under.opens;
     }
     Weighed { weight, opens }
 }
@@ -129,22 +121,20 @@ pub(crate) fn weigh_children(
     // 1 for each
     let mut weight = count;
     let mut opens = false;
-    let mut i = 0;
-    while i < count {
+    for i in 0..count {
         let k = word(image, at + 2 * i) as usize;
         if n <= k {
             return NOT_LOWER;
         }
         let it = child_at(image, records_at, list_at, k);
-        i += 1;
         if it.count == 0 {
             weight += it.b;
-            opens = either(opens, it.opens);
+            opens |= it.opens;
             continue;
         }
         let under = weigh(image, records_at, list_at, k, it.at, it.count);
         weight += under.weight;
-        opens = either(opens, either(it.opens, under.opens));
+        opens |= it.opens | under.opens;
     }
     Children {
         lower: true,

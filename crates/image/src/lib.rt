@@ -15,6 +15,6 @@ pub mod words;
 
 pub use areas::{Source, in_use, refusal_in_use, source_of};
 pub use header::counts_good;
-pub use record::{Action, Cell, Entry, action_at, cell_at, entry_at};
-pub use rules::{Checked, check};
+pub use record::{Action, action_at, cell_at, entry_at};
+pub use rules::check;
 pub use words::{Shape, word_or_zero};

@@ -1,12 +1,12 @@
 // The eight actions as records of a table image, and the lookups: keyberon's `Action`. Document 01, "The table image".
 // Assumes nothing.
 ghost use Rattle.std.specs.Prelude.{◌≡◌, ◌+◌, ◌*◌, ◌<◌};
-ghost use Rattle.image.specs.Record.{action_of, action_at, cell_at, entry_at, action_words, cell_value, entry_value};
+ghost use Rattle.image.specs.Record.{action_of, action_at, cell_at, entry_at, action_words};
 
 use super::words::word_or_zero;
 
 // A record's words, by its kind: records are named by their numbers, entries by the first and their count.
-#[derive(Clone, Copy)]
+#[derive(Clone, Copy, PartialEq, Eq, Debug)]
 pub enum Action {
     NoOp,
     Trans,
@@ -16,20 +16,6 @@ pub enum Action {
     Layer(u16),
     DefaultLayer(u16),
     HoldTap(u16, u16, u16),
-}
-
-// The record that a cell names, or no cell.
-#[derive(Clone, Copy)]
-pub enum Cell {
-    Record(u16),
-    Outside,
-}
-
-// A list entry's word, or no entry.
-#[derive(Clone, Copy)]
-pub enum Entry {
-    Word(u16),
-    Outside,
 }
 
 // The action of a kind with the words a, b, c.
@@ -48,22 +34,19 @@ pub(crate) fn action_of(kind: u16, a: u16, b: u16, c: u16) -> Action
     }
 }
 
-// The record that a cell names. Nothing is asked of the image or of the place, so the place of the cell in the image can
-// pass 32 bits.
-pub fn cell_at(image: &[u8], layer: usize, row: usize, column: usize) -> Cell
-    ensures { cell_value result ≡ cell_value (cell_at image.now layer row column) }
+// The record that a cell names, or nothing outside the table. Nothing is asked of the image or of the place, so the place of
+// the cell in the image can pass 32 bits.
+pub fn cell_at(image: &[u8], layer: usize, row: usize, column: usize) -> Option<u16>
+    ensures { result ≡ cell_at image.now layer row column }
 {
     let rows = word_or_zero(image, 4) as u64;
     let columns = word_or_zero(image, 6) as u64;
-    if (layer as u64) < (word_or_zero(image, 2) as u64) {
-        if (row as u64) < rows {
-            if (column as u64) < columns {
-                let place = ((layer as u64) * rows + (row as u64)) * columns + (column as u64);
-                return Cell::Record(word_or_zero(image, 16 + 2 * place));
-            }
-        }
+    let (layer, row, column) = (layer as u64, row as u64, column as u64);
+    if layer < (word_or_zero(image, 2) as u64) && row < rows && column < columns {
+        let place = (layer * rows + row) * columns + column;
+        return Some(word_or_zero(image, 16 + 2 * place));
     }
-    Cell::Outside
+    None
 }
 
 // The action of record n. A record past the last is NoOp.
@@ -81,13 +64,13 @@ pub fn action_at(image: &[u8], n: usize) -> Action
     action_of(kind, a, b, c)
 }
 
-// An entry of the list.
-pub fn entry_at(image: &[u8], e: usize) -> Entry
-    ensures { entry_value result ≡ entry_value (entry_at image.now e) }
+// An entry of the list, or nothing past its end.
+pub fn entry_at(image: &[u8], e: usize) -> Option<u16>
+    ensures { result ≡ entry_at image.now e }
 {
     if (word_or_zero(image, 10) as usize) <= e {
-        return Entry::Outside;
+        return None;
     }
     let at = (word_or_zero(image, 14) as u64) + 2 * (e as u64);
-    Entry::Word(word_or_zero(image, at))
+    Some(word_or_zero(image, at))
 }

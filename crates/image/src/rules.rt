@@ -3,101 +3,56 @@
 // Assumes nothing.
 ghost use Rattle.std.specs.Prelude.{◌≡◌, ◌<◌, ◌≤◌, length};
 ghost use Rattle.refusal.specs.Verdict.{first_fault};
+ghost use Rattle.refusal.specs.Said.{said};
 ghost use Rattle.image.specs.Words.{shape_of, cells_of, records_of};
-ghost use Rattle.image.specs.Check.{cell_fault, body_fault, fault_of, answer, check_of, told_of, said_of};
+ghost use Rattle.image.specs.Check.{cell_fault, body_fault, fault_of, check_of, no_shape};
 ghost use Rattle.image.specs.Sound.{Framed};
 
-use super::header::head_fault;
-use super::records::records_fault;
+use super::header::head_rules;
+use super::records::records_rules;
 use super::words::{Shape, shape_of, word};
-use refusal::{Refusal, Told, Verdict};
+use refusal::{Fault, Refusal, rule};
 
-// The header's numbers of an accepted image, or the first fault and its place.
-#[derive(Clone, Copy)]
-pub enum Checked {
-    Accepted(Shape),
-    Refused(Refusal, usize),
-}
-
-impl Checked {
-    // The paper's number and place, for programs that print them.
-    pub fn told(self) -> Told
-        ensures { result ≡ told_of self }
-    {
-        match self {
-            Checked::Accepted(_) => Told {
-                number: 0,
-                place: 0,
-            },
-            Checked::Refused(refusal, place) => Told {
-                number: refusal.number(),
-                place,
-            },
-        }
-    }
-}
-
-// The first cell that names no record.
-fn cells_fault(image: &[u8], count: usize, records: usize) -> Verdict
+// Each cell names a record.
+fn cells_rules(image: &[u8], count: usize, records: usize) -> Result<(), Fault>
     requires { Framed image.now × (count ≡ cells_of image.now) × (records ≡ records_of image.now) }
     ensures { result ≡ first_fault (cell_fault image.now) 0 count }
 {
-    let mut i = 0;
-    while i < count {
-        if records <= (word(image, 16 + 2 * i) as usize) {
-            return Verdict::Refused(Refusal::Cell, i);
-        }
-        i += 1;
+    for i in 0..count {
+        rule(
+            (word(image, 16 + 2 * i) as usize) < records,
+            Refusal::Cell,
+            i,
+        )?;
     }
-    Verdict::Fine
+    Ok(())
 }
 
 // Cells, then records.
-fn body_fault(image: &[u8], s: Shape) -> Verdict
+fn body_rules(image: &[u8], s: Shape) -> Result<(), Fault>
     requires { Framed image.now × (s ≡ shape_of image.now) }
     ensures { result ≡ body_fault image.now }
 {
-    let f = cells_fault(image, s.layers * s.rows * s.columns, s.records);
-    let Verdict::Fine = f else {
-        return f;
-    };
-    records_fault(image, s.records_at, s.list_at, s.entries, s.records)
+    cells_rules(image, s.layers * s.rows * s.columns, s.records)?;
+    records_rules(image, s.records_at, s.list_at, s.entries, s.records)
 }
 
 // Past Short: Header, Length, cells, records.
-fn image_fault(image: &[u8], s: Shape) -> Verdict
+fn image_rules(image: &[u8], s: Shape) -> Result<(), Fault>
     requires { (16 ≤ length image.now) × (s ≡ shape_of image.now) × (s.entries < 65536) × (s.list_at < 65536) }
     ensures { result ≡ fault_of image.now }
 {
     let size = s.list_at + 2 * s.entries;
-    let f = head_fault(image, s, image.len() == size);
-    let Verdict::Fine = f else {
-        return f;
-    };
-    body_fault(image, s)
-}
-
-// The answer to a fault: the refusal, and where there is none, the header's numbers.
-pub(crate) fn answer_of(fault: Verdict, s: Shape) -> Checked
-    ensures { result ≡ answer fault s }
-{
-    match fault {
-        Verdict::Fine => Checked::Accepted(s),
-        Verdict::Refused(refusal, place) => Checked::Refused(refusal, place),
-    }
+    head_rules(image, s, image.len() == size)?;
+    body_rules(image, s)
 }
 
 // The check: the header's numbers, or the first fault and its place.
-pub fn check(image: &[u8]) -> Checked
-    ensures { said_of result ≡ said_of (check_of image.now) }
+pub fn check(image: &[u8]) -> Result<Shape, Fault>
+    ensures { said no_shape result ≡ said no_shape (check_of image.now) }
 {
-    if image.len() < 16 {
-        return Checked::Refused(Refusal::Short, 0);
-    }
+    rule(16 <= image.len(), Refusal::Short, 0)?;
     let s = shape_of(image);
-    let f = image_fault(image, s);
-    let Verdict::Fine = f else {
-        return answer_of(f, s);
-    };
-    Checked::Accepted(s)
+    image_rules(image, s)?;
+    Ok(s)
 }

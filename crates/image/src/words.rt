@@ -5,7 +5,7 @@ ghost use Rattle.image.specs.Words.{word_at, shape_of, records_of, entries_of, r
 ghost use Rattle.image.specs.Sound.{Framed};
 
 // The header's numbers but for the version.
-#[derive(Clone, Copy)]
+#[derive(Clone, Copy, PartialEq, Eq, Debug)]
 pub struct Shape {
     pub layers: usize,
     pub rows: usize,
@@ -30,8 +30,7 @@ fn byte_or_zero(image: &[u8], at: u64) -> u16
     ensures { (result ≡ get_or image.now at 0) × (result < 256) }
 {
     if at < (image.len() as u64) {
-        let i = at as usize;
-        image[i] as u16
+        image[at as usize] as u16
     } else {
         0
     }
