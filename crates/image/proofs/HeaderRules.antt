@@ -14,6 +14,7 @@ use Rattle.refusal.specs.declared.Refusal.TheVariants as refusal
 use Rattle.image.specs.Words.{version_of, records_of, records_start, list_start, shape_of, size_of, cell_of}
 use Rattle.image.specs.Check.{within, counts_good, offsets_good, header_good, head_fault, cell_fault}
 use Rattle.image.specs.Sound.{Framed}
+use Rattle.image.specs.Inside.{Counts}
 use Rattle.image.specs.declared.words.Shape.{Shape}
 use Rattle.refusal.specs.Verdict.{fine, refused}
 use Rattle.refusal.proofs.Verdicts.{rule_no, rule_yes, rule_fine}
@@ -24,13 +25,6 @@ unfolding within
 in_range lo hi x e =
     let h = both_true (leb lo x) (leb x hi) e in
     (leb-true lo x h.0, leb-true x hi h.1)
-
-pub record Counts (s : Shape) : Type 0 where
-  pub layers : (1 ≤ s.layers) × (s.layers ≤ 8)
-  pub rows : (1 ≤ s.rows) × (s.rows ≤ 8)
-  pub columns : (1 ≤ s.columns) × (s.columns ≤ 16)
-  pub records : (1 ≤ s.records) × (s.records ≤ 256)
-  pub entries : s.entries ≤ 1024
 
 pub counts : (version : ℕ) (s : Shape) → counts_good version s ≡ true → Counts s
 unfolding counts_good

@@ -30,4 +30,3 @@ not_or false b = refl
 pub or_false : (a : Bool) → (a || false) ≡ a
 or_false true = refl
 or_false false = refl
-

@@ -9,9 +9,18 @@ use Rattle.image.specs.Tree.{Actions, named, tree, open?, some_open, weight, wei
 use Rattle.image.specs.Check.{form_good}
 use Rattle.image.specs.Sound.{Framed, Good}
 use Rattle.image.specs.declared.record.Action.TheVariants.{MultipleKeyCodes, MultipleActions}
+use Rattle.image.specs.declared.words.Shape.{Shape}
 use Rattle.image.specs.declared.children.Child.{Child}
 use Rattle.image.specs.declared.children.Weighed.{Weighed}
 use Rattle.image.specs.declared.children.Children.{Children}
+
+-- the counts of a header that keeps their rules
+pub record Counts (s : Shape) : Type 0 where
+  pub layers : (1 ≤ s.layers) × (s.layers ≤ 8)
+  pub rows : (1 ≤ s.rows) × (s.rows ≤ 8)
+  pub columns : (1 ≤ s.columns) × (s.columns ≤ 16)
+  pub records : (1 ≤ s.records) × (s.records ≤ 256)
+  pub entries : s.entries ≤ 1024
 
 -- the two offsets, read once and handed on
 pub record Placed (img : List ℕ) (records_at list_at : ℕ) : Type 0 where

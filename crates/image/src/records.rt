@@ -16,6 +16,7 @@ use codes::KeyCode;
 use refusal::{Fault, Refusal, rule};
 
 // The form of a record's words, where the list has so many entries.
+#[tactic(auto, unfolding(crate::specs::Check::form))]
 fn form_good(listed: usize, kind: u16, a: u16, b: u16, c: u16) -> bool
     ensures { result ≡ form listed kind a b c }
 {
@@ -76,7 +77,8 @@ fn actions_rules(
     let at = list_at + 2 * first;
     let most = weigh_children(image, records_at, list_at, n, at, count - 1);
     let last = weigh_children(image, records_at, list_at, n, at + 2 * (count - 1), 1);
-    rule(most.lower && last.lower, Refusal::Child, n)?;
+    rule(most.lower, Refusal::Child, n)?;
+    rule(last.lower, Refusal::Child, n)?;
     rule(!most.opens, Refusal::Nested, n)?;
     rule(1 + (most.weight + last.weight) <= 64, Refusal::Weight, n)
 }

@@ -19,16 +19,14 @@ fn cells_rules(image: &[u8], count: usize, records: usize) -> Result<(), Fault>
     ensures { result ≡ first_fault (cell_fault image.now) 0 count }
 {
     for i in 0..count {
-        rule(
-            (word(image, 16 + 2 * i) as usize) < records,
-            Refusal::Cell,
-            i,
-        )?;
+        let named = word(image, 16 + 2 * i) as usize;
+        rule(named < records, Refusal::Cell, i)?;
     }
     Ok(())
 }
 
 // Cells, then records.
+#[tactic(auto, using(crate::proofs::HeaderRules::small))]
 fn body_rules(image: &[u8], s: Shape) -> Result<(), Fault>
     requires { Framed image.now × (s ≡ shape_of image.now) }
     ensures { result ≡ body_fault image.now }

@@ -57,7 +57,7 @@ turn t c {more} {o} f q =
 
 pub loop-i-preserved-then-it-eq0 : goal.loop-i-preserved-then-it-eq0
 loop-i-preserved-then-it-eq0 t c =
-    turn t (goal.at.loop-i-preserved-then-it-eq0 t c).After-child_at-it (leaf _ _ _ c.child_at-it.ensures c.if-it-eq0.true) c.either-opens.ensures
+    turn t (goal.at.loop-i-preserved-then-it-eq0 t c).After-child_at-it (leaf _ _ _ c.child_at-it.ensures c.if-it-eq0.true) refl
 
 pub weigh-under-requires : goal.weigh-under-requires
 weigh-under-requires t c =
@@ -72,8 +72,8 @@ overflow_add-weight-in-loop-i t c =
 
 pub loop-i-preserved : goal.loop-i-preserved
 loop-i-preserved t c =
-    let f = parent _ _ _ _ c.child_at-it.ensures c.if-it-eq0.false c.weigh-under.ensures c.either.ensures in
-    turn t (goal.at.loop-i-preserved t c).After-child_at-it f c.either-opens-in-loop-i.ensures
+    let f = parent _ _ _ _ c.child_at-it.ensures c.if-it-eq0.false c.weigh-under.ensures refl in
+    turn t (goal.at.loop-i-preserved t c).After-child_at-it f refl
 
 pub returns : goal.returns
 returns t c =

@@ -1,5 +1,5 @@
 -- `image::children::weigh` meets its contract. The invariant: what was found and what is left come to what all the children do,
--- where each of those left was counted as 1. What is left falls in the loop, the record's number in the recursion.
+-- where each of those left was counted as 1. The record's number falls in the recursion.
 -- Assumes nothing.
 use Rattle.std.proofs.Common.{◌≡◌, ◌+◌, ◌-◌, ◌*◌, ◌≤◌, true}
 use Rattle.image.proofs.Entries.{words_after}
@@ -20,6 +20,3 @@ invariant-loop-i l =
     × (every (λ k. ltb k l.n) (words_after l.image l.at l.count l.i) ≡ true)
     × (l.weight + weights (children_after l.image l.at l.count l.i) ≡ weights (children_at l.image l.at l.count) + (l.count - l.i))
     × ((l.opens || some_open (children_after l.image l.at l.count l.i)) ≡ some_open (children_at l.image l.at l.count))
-
-abbrev pub decreases-loop-i : goal.decreases-loop-i
-decreases-loop-i l = l.count - l.i

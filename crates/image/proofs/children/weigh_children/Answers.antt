@@ -66,15 +66,9 @@ child_at-it-requires c =
     let p = c.requires in
     (p.0, formed_lower _ _ _ p.1 c.if-n-k.false, p.1.before _ c.if-n-k.false)
 
-pub overflow_add-i : goal.overflow_add-i
-overflow_add-i c = omega (arith, c.loop-i-test.true, c.requires.3)
-
 pub overflow_add-weight : goal.overflow_add-weight
 overflow_add-weight c =
     omega (arith, light (goal.at.overflow_add-weight c).After-child_at-it (leaf _ _ _ c.child_at-it.ensures c.if-it-eq0.true), c.loop-i.invariant.0, c.loop-i-test.true, c.requires.3)
-
-pub loop-i-smaller-then-it-eq0 : goal.loop-i-smaller-then-it-eq0
-loop-i-smaller-then-it-eq0 c = omega (arith, c.loop-i-test.true)
 
 -- a turn: what was found before it and at it
 turn : (c : After-child_at-it) {more : ℕ} {o e : Bool} → OfThis c more o → let a = c.args in let l = c.loop-i in
@@ -89,7 +83,7 @@ turn c {more} {o} f q =
 
 pub loop-i-preserved-then-it-eq0 : goal.loop-i-preserved-then-it-eq0
 loop-i-preserved-then-it-eq0 c =
-    turn (goal.at.loop-i-preserved-then-it-eq0 c).After-child_at-it (leaf _ _ _ c.child_at-it.ensures c.if-it-eq0.true) c.either-opens.ensures
+    turn (goal.at.loop-i-preserved-then-it-eq0 c).After-child_at-it (leaf _ _ _ c.child_at-it.ensures c.if-it-eq0.true) refl
 
 pub weigh-under-requires : goal.weigh-under-requires
 weigh-under-requires c =
@@ -100,12 +94,9 @@ pub overflow_add-weight-in-loop-i : goal.overflow_add-weight-in-loop-i
 overflow_add-weight-in-loop-i c =
     omega (arith, light (goal.at.overflow_add-weight-in-loop-i c).After-child_at-it (parent _ _ _ _ c.child_at-it.ensures c.if-it-eq0.false c.weigh-under.ensures refl), c.loop-i.invariant.0, c.loop-i-test.true, c.requires.3)
 
-pub loop-i-smaller : goal.loop-i-smaller
-loop-i-smaller c = omega (arith, c.loop-i-test.true)
-
 pub loop-i-preserved : goal.loop-i-preserved
 loop-i-preserved c =
-    turn (goal.at.loop-i-preserved c).After-child_at-it (parent _ _ _ _ c.child_at-it.ensures c.if-it-eq0.false c.weigh-under.ensures c.either.ensures) c.either-opens-in-loop-i.ensures
+    turn (goal.at.loop-i-preserved c).After-child_at-it (parent _ _ _ _ c.child_at-it.ensures c.if-it-eq0.false c.weigh-under.ensures refl) refl
 
 pub returns : goal.returns
 returns c =

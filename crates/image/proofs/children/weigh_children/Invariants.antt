@@ -17,6 +17,3 @@ invariant-loop-i l =
     × (every (λ k. ltb k l.n) (words_from l.image l.at l.count) ≡ every (λ k. ltb k l.n) (words_after l.image l.at l.count l.i))
     × (l.weight + weights (children_after l.image l.at l.count l.i) ≡ weights (children_at l.image l.at l.count) + (l.count - l.i))
     × ((l.opens || some_open (children_after l.image l.at l.count l.i)) ≡ some_open (children_at l.image l.at l.count))
-
-abbrev pub decreases-loop-i : goal.decreases-loop-i
-decreases-loop-i l = l.count - l.i

@@ -1,0 +1,11 @@
+-- `image::records::records_rules` meets its contract. The invariant: every record passed is good, and the first fault is that from
+-- the record reached on. Assumes nothing.
+use Prim.Native.Nat.{ℕ, ◌-◌, ◌<◌}
+use Rattle.refusal.specs.Verdict.{first_fault}
+use Rattle.image.specs.Check.{record_fault}
+use Rattle.image.specs.Sound.{Good}
+use mathlib.Core.Path.{◌≡◌}
+use Rattle.image.proofs.records.records_rules.Given as goal
+
+abbrev pub invariant-loop-n : goal.invariant-loop-n
+invariant-loop-n l = (first_fault (record_fault l.image) 0 l.records ≡ first_fault (record_fault l.image) l.n (l.records - l.n)) × ((k : ℕ) → k < l.n → Good l.image k)
