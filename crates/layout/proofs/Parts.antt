@@ -10,16 +10,16 @@ use lib.Seq.{length-take-le}
 use Rattle.event.specs.declared.Event.{Event}
 use Rattle.layout.specs.Model.{Queued, Model, with_states}
 use Rattle.layout.specs.Steps.{appended, older_one, older}
-use Rattle.layout.specs.Packed.{pad, no_slot, no_stacked, waiting_of, queued_of, stacked_of, list_in, model_of}
+use Rattle.layout.specs.Packed.{pad, no_state, no_stacked, waiting_of, queued_of, stacked_of, list_in, model_of}
 use Rattle.layout.specs.Inside.{Tidy, Lined, Moves}
-use Rattle.layout.specs.declared.active.Slot.{Slot}
+use Rattle.layout.specs.declared.active.State.{State}
 use Rattle.layout.specs.declared.active.Active.{Active}
 use Rattle.layout.specs.declared.queue.Stacked.{Stacked}
 use Rattle.layout.specs.declared.queue.Queue.{Queue}
 use Rattle.layout.proofs.Pads.{held_more, take_pad, length_pad, map-append}
 
 pub tidy_length : (active : Active) → Tidy active → length active.states ≡ 64
-tidy_length active t = rw (← t.clean) (length_pad 64 no_slot (take active.len active.states) (simp length-take (omega (arith, t.few))))
+tidy_length active t = rw (← t.clean) (length_pad 64 no_state (take active.len active.states) (simp length-take (omega (arith, t.few))))
 
 pub lined_length : (queue : Queue) → Lined queue → length queue.stacked ≡ 16
 lined_length queue t = rw (← t.clean) (length_pad 16 no_stacked (take queue.queued queue.stacked) (simp length-take (omega (arith, t.few))))
@@ -51,13 +51,13 @@ rest_list (s ∷ l) = refl
 
 -- the active part with one part of it put in
 module _ (img : List ℕ) where
-  pub new_states : (active : Active) (l arr : List Slot) (k : ℕ) → length l ≤ 64 → k ≡ length l → arr ≡ pad 64 no_slot l
-      → Moves img active (record { default_layer = active.default_layer; states = arr; len = k; waiting = active.waiting }) (with_states (map (λ (s : Slot). s.state) l))
+  pub new_states : (active : Active) (l arr : List State) (k : ℕ) → length l ≤ 64 → k ≡ length l → arr ≡ pad 64 no_state l
+      → Moves img active (record { default_layer = active.default_layer; states = arr; len = k; waiting = active.waiting }) (with_states l)
   new_states active l arr k h ek ea =
-      let is : take k arr ≡ l = rw (ek, ea) (take_pad 64 no_slot l) in
+      let is : take k arr ≡ l = rw (ek, ea) (take_pad 64 no_state l) in
       record {
-        tidy = record { few = omega arith; clean = ap (pad 64 no_slot) is ∙ sym ea };
-        is = λ q. ap (λ (x : List Slot). record { base = active.default_layer; states = map (λ (s : Slot). s.state) x; waiting = waiting_of img active.waiting; queue = q }) is;
+        tidy = record { few = omega arith; clean = ap (pad 64 no_state) is ∙ sym ea };
+        is = λ q. ap (λ (x : List State). record { base = active.default_layer; states = x; waiting = waiting_of img active.waiting; queue = q }) is;
       }
 
   pub moves_as : {a b : Active} {f g : Model → Model} → Moves img a b f → ((q : List Queued) → f (model_of img a q) ≡ g (model_of img a q)) → Moves img a b g
