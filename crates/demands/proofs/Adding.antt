@@ -1,6 +1,7 @@
 -- The layout's steps by another way to add a state (specs/Adding.antt), held to its own: where what they drop keeps to P, both
 -- leave the same layout and the same marks, and the count is f of the layout's. P and f are whatever goes through sums.
 -- Assumes nothing.
+use Rattle.std.specs.Prelude.{Option}
 use Prim.Native.Nat.{ℕ, zero, suc, ◌+◌, ◌-◌}
 use mathlib.Core.Path.{◌≡◌, refl, sym, ap, ap₂, ◌∙◌}
 use mathlib.Core.Bool.{Bool, true, false, cond}
@@ -20,7 +21,6 @@ use Rattle.layout.specs.declared.active.State.{State}
 use Rattle.layout.specs.declared.active.State.TheVariants.{NormalKey, LayerModifier}
 use Rattle.layout.specs.declared.notes.Way.{Way}
 use Rattle.layout.specs.declared.notes.Way.TheVariants.{Tap, Hold}
-use Rattle.layout.specs.declared.queue.Found.{Found}
 use Rattle.demands.specs.Adding as by
 use Rattle.demands.specs.Adding.{Adds, kept, silent}
 
@@ -76,7 +76,7 @@ module _ (P : ℕ → Type 0) (f : ℕ → ℕ) (a : Additive P f) where
     mutual
       unfolding by.do_action do_action
 
-      pub follow_action : (x : Action) (n : ℕ) (c : Coord) (d : ℕ) (g : Found) (l : Model) → Follows P f (by.do_action add x n c d g l) (do_action x n c d g l)
+      pub follow_action : (x : Action) (n : ℕ) (c : Coord) (d : ℕ) (g : Option ℕ) (l : Model) → Follows P f (by.do_action add x n c d g l) (do_action x n c d g l)
       follow_action NoOp n c d g l = follow_still l
       follow_action Trans n c d g l = follow_still l
       follow_action (KeyCode k) n c d g l = adds (NormalKey k c) l
@@ -87,7 +87,7 @@ module _ (P : ℕ → Type 0) (f : ℕ → ℕ) (a : Additive P f) where
       follow_action (HoldTap i t h p) n c d g l =
           follow_begins (ruling t d g) c _ _ _ _ _ (follow_action p n c 0 g (with_waiting Idle l)) (follow_action h n c 0 g (with_waiting Idle l))
 
-      follow_actions : (xs : Actions) (n : ℕ) (c : Coord) (d : ℕ) (g : Found) (l : Model) → Follows P f (by.do_actions add xs n c d g l) (do_actions xs n c d g l)
+      follow_actions : (xs : Actions) (n : ℕ) (c : Coord) (d : ℕ) (g : Option ℕ) (l : Model) → Follows P f (by.do_actions add xs n c d g l) (do_actions xs n c d g l)
       follow_actions end n c d g l = follow_still l
       follow_actions (x & xs) n c d g l = follow_after _ _ (by.do_actions add xs n c d g) (do_actions xs n c d g) (follow_action x n c d g l) (λ m. follow_actions xs n c d g m)
 

@@ -1,5 +1,6 @@
 -- Demand 3 of the public calls, proved of every accepted image: by the tie, from the same of the layout as lists.
 -- Assumes nothing.
+use Rattle.std.specs.Prelude.{Ok, Err}
 use Prim.Native.Nat.{ℕ, ◌≤◌, ◌<◌}
 use mathlib.Core.Path.{◌≡◌, refl, ap, ◌∙◌}
 use mathlib.Core.Bool.{true}
@@ -10,22 +11,18 @@ use lib.ListN.{length, get_or}
 use Rattle.lists.specs.Lists.{every}
 use Rattle.lists.proofs.Laws.{both_true}
 use Rattle.codes.specs.Report.{with_codes, report_of}
-use Rattle.refusal.specs.Verdict.{or_else}
-use Rattle.refusal.specs.declared.Verdict.{Verdict}
-use Rattle.refusal.specs.declared.Verdict.TheVariants.{Fine, Refused}
+use Rattle.refusal.specs.Verdict.{or_else, Verdict, fine, refused}
 use Rattle.refusal.proofs.Said.{number_some}
 use Rattle.image.specs.Check.{check_of}
 use Rattle.image.specs.Table.{table_of, times_of}
 use Rattle.image.specs.declared.words.Shape.{Shape}
-use Rattle.image.specs.declared.rules.Checked.{Checked}
-use Rattle.image.specs.declared.rules.Checked.TheVariants.{Accepted}
-use Rattle.image.specs.declared.rules.Checked.TheVariants as checked
 use Rattle.image.proofs.Accepted.{accepted}
 use Rattle.layout.specs.Model.{Model, Done, fresh}
 use Rattle.layout.specs.Steps.{event, tick, codes}
 use Rattle.layout.specs.Packed.{waiting_in, pack, unpack}
 use Rattle.layout.specs.Notes.{acted_on}
-use Rattle.layout.specs.Calls.{judged_of, answer_of, told_of, replied}
+use Rattle.refusal.specs.Said.{said}
+use Rattle.layout.specs.Calls.{judged_of, answer_of, no_answer, replied}
 use Rattle.layout.specs.declared.layout.Layout.{Layout}
 use Rattle.layout.specs.Reach.{Starts, FreshStarts}
 use Rattle.layout.proofs.Reach.{fresh_starts}
@@ -41,7 +38,7 @@ use Rattle.demands.proofs.Replies.{Tied, tied_start, roomy_append, calls_are}
 pub at_rest : (l : Model) → Quiet l → AtRest (pack l)
 at_rest l q = record { empty = ap length q.empty; idle = ap waiting_in q.idle }
 
-module _ (img : List ℕ) (shape : Shape) (bytes : (i : ℕ) → get_or img i 0 < 256) (e : check_of img ≡ Accepted shape) (start : Model) (s : Starts img start) (calls : List Lent) (room : Roomy calls) where
+module _ (img : List ℕ) (shape : Shape) (bytes : (i : ℕ) → get_or img i 0 < 256) (e : check_of img ≡ Ok shape) (start : Model) (s : Starts img start) (calls : List Lent) (room : Roomy calls) where
   -- the bound is that of the lists
   lists : (n : ℕ) → bound_of img start calls ≤ n → OnLists (table_of img) (times_of img) start (calls_of calls) n
   lists n h = on_lists (table_of img) (times_of img) (proper_image img bytes (accepted img shape e).1) start s.stateless s.idle s.empty (calls_of calls) n (rw (tied_start img shape e start s calls room).layout at h)
@@ -80,15 +77,15 @@ unfolding OfFresh OfImages FreshStarts
 of_fresh img shape bytes e calls room = of_images img shape bytes e fresh (fresh_starts img shape e) calls room
 
 -- an answer whose number is 0 is not refused
-heard_fine : (v : Verdict) (done : Done) → eqb (told_of (answer_of v done)).number 0 ≡ true → v ≡ Fine
+heard_fine : (v : Verdict) (done : Done) → eqb (said no_answer (answer_of v done)).number 0 ≡ true → v ≡ fine
 unfolding answer_of
-heard_fine Fine done h = refl
-heard_fine (Refused r place) done h = let z = number_some r in cc
+heard_fine (Ok u) done h = refl
+heard_fine (Err f) done h = let z = number_some r in cc
 
-heard_by : (x : Checked) (img : List ℕ) (layout : Layout) (buffer : List ℕ) → check_of img ≡ x → judged_of img layout (length buffer) ≡ Fine → Given img buffer
+heard_by : (x : Checked) (img : List ℕ) (layout : Layout) (buffer : List ℕ) → check_of img ≡ x → judged_of img layout (length buffer) ≡ fine → Given img buffer
 unfolding judged_of or_else
-heard_by (checked.Accepted s) img layout buffer e h = record { shape = s; accepted = e; room = (judged_fine img layout (length buffer) h).2 }
-heard_by (checked.Refused r place) img layout buffer e h = let y = rw e at h in let z : ◌≡◌ {A = ℕ} 0 1 = cc in absurd (omega arith)
+heard_by (Ok s) img layout buffer e h = record { shape = s; accepted = e; room = (judged_fine img layout (length buffer) h).2 }
+heard_by (Err f) img layout buffer e h = let y = rw e at h in let z : ◌≡◌ {A = ℕ} 0 1 = cc in absurd (omega arith)
 
 pub heard : Heard
 unfolding Heard NoneRefused reply replied

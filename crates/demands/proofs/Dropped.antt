@@ -1,5 +1,7 @@
 -- What the count of dropped states is worth: specs/Dropped.antt.
 -- Assumes nothing.
+use Rattle.refusal.specs.Verdict.{Verdict, fine, refused}
+use Rattle.std.specs.Prelude.{Ok, Err}
 use Prim.Native.Nat.{ℕ, zero, suc, ◌+◌, ◌≤◌}
 use mathlib.Core.Path.{◌≡◌, refl, sym, ap, ap₂, subst, ◌∙◌}
 use mathlib.Core.Bool.{true}
@@ -10,21 +12,18 @@ use lib.Dec.{eqb}
 use lib.ListN.{length}
 use Rattle.lists.specs.Lists.{every}
 use Rattle.lists.proofs.Laws.{both_true}
-use Rattle.refusal.specs.declared.Verdict.{Verdict}
-use Rattle.refusal.specs.declared.Verdict.TheVariants.{Fine, Refused}
 use Rattle.image.specs.Check.{check_of}
 use Rattle.image.specs.Sound.{Sound}
 use Rattle.image.specs.Table.{Table, table_of}
 use Rattle.image.specs.declared.words.Shape.{Shape}
-use Rattle.image.specs.declared.rules.Checked.TheVariants.{Accepted}
 use Rattle.layout.specs.Model.{Model, Mark, Acted, Begun, Decided, Done}
 use Rattle.layout.specs.Actions.{push}
 use Rattle.layout.specs.Steps.{event, tick, codes, sum}
 use Rattle.layout.specs.Packed.{pack, unpack}
 use Rattle.layout.specs.Notes.{no_notes, note_acted, decision_at, note_decision, noted_marks, counted, noted, acted_on, decisions}
-use Rattle.layout.specs.Calls.{judged_of, answer_of, layout_after, buffered, told_of, Reply, codes_told, replied, keycodes_reply}
+use Rattle.refusal.specs.Said.{said}
+use Rattle.layout.specs.Calls.{judged_of, answer_of, layout_after, buffered, no_answer, Reply, codes_told, replied, keycodes_reply}
 use Rattle.layout.specs.declared.notes.Decision.{Decision}
-use Rattle.layout.specs.declared.notes.Decision.TheVariants as decision
 use Rattle.layout.specs.declared.notes.Notes.{Notes}
 use Rattle.layout.specs.declared.layout.Layout.{Layout}
 use Rattle.layout.proofs.Calls.{judged_fine}
@@ -67,10 +66,10 @@ module _ (image : List ℕ) (f : Model → Done) (most : ℕ) (few : most ≤ 65
   tells = go (judged_of image layout (length buffer)) refl
     where
       go : (j : Verdict) → judged_of image layout (length buffer) ≡ j → let n = dropped_if (judged_of image layout (length buffer)) (f (unpack image layout)) in (count_in (replied image f layout buffer) ≡ n) × (n ≤ most)
-      go Fine e =
+      go (Ok u) e =
           let h = limit (judged_fine image layout (length buffer) e).0 in
           rw e (noted_count (f (unpack image layout)) (omega arith), h)
-      go (Refused r place) e = rw e (refl, omega arith)
+      go (Err f) e = rw e (refl, omega arith)
 
 pub told : Told
 unfolding Told step reply
@@ -82,8 +81,8 @@ unfolding NoneShown replied answer_of noted_marks
 none_shown image layout buffer = go (judged_of image layout (length buffer)) refl
   where
     go : (j : Verdict) → judged_of image layout (length buffer) ≡ j → count_in (keycodes_reply image layout buffer) ≡ 0
-    go Fine e = rw e
-    go (Refused r place) e = rw e
+    go (Ok u) e = rw e
+    go (Err f) e = rw e
 
 pub add_up : AddUp
 unfolding AddUp replies dropped_in sum Told
@@ -122,12 +121,12 @@ untold_reply image layout buffer y = go (judged_of image layout (length buffer))
     go :
         (j : Verdict)
         → ◌≡◌ {A = Reply}
-        (record { told = told_of (answer_of j (untold y)); layout = layout_after j (untold y) layout; buffer = buffered j (untold y) buffer })
-        (uncounted (record { told = told_of (answer_of j y); layout = layout_after j y layout; buffer = buffered j y buffer }))
-    go Fine =
-        ap (λ (k : ℕ). record { told = record { number = 0; place = 0; codes = length (codes y.layout.states); notes = record { acted = n.acted; made = n.made; first = n.first; second = n.second; dropped = k } }; layout = pack y.layout; buffer = buffered Fine y buffer })
+        (record { told = said no_answer (answer_of j (untold y)); layout = layout_after j (untold y) layout; buffer = buffered j (untold y) buffer })
+        (uncounted (record { told = said no_answer (answer_of j y); layout = layout_after j y layout; buffer = buffered j y buffer }))
+    go (Ok u) =
+        ap (λ (k : ℕ). record { told = record { number = 0; place = 0; codes = length (codes y.layout.states); notes = record { acted = n.acted; made = n.made; first = n.first; second = n.second; dropped = k } }; layout = pack y.layout; buffer = buffered fine y buffer })
         (marks_count y.marks no_notes)
-    go (Refused r place) = refl
+    go (Err f) = refl
 
 pub as_before : AsBefore
 unfolding AsBefore reply_by reply replied
@@ -147,7 +146,7 @@ kept_call T (Enter e) l z = follow_event None nothing none_dropped kept kept_fol
 said_by_lem : (x y : Done) → Match None nothing x y → said_by y ≡ said_by x
 said_by_lem x y m = ap₂ (λ (l : Model) (ms : List Mark). said_by (record { layout = l; marks = ms; dropped = 0 })) (sym m.layout) (sym m.marks)
 
-module _ (img : List ℕ) (shape : Shape) (e : check_of img ≡ Accepted shape) where
+module _ (img : List ℕ) (shape : Shape) (e : check_of img ≡ Ok shape) where
   abbrev table : Table
   table = table_of img
 

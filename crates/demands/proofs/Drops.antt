@@ -1,6 +1,7 @@
 -- What an action drops is what it asks for and does not get. And how many states a call drops at most, by the measure of
 -- crates/layout/proofs/Limits.antt: what an action drops, and what it leaves waiting may drop, is within what it may add.
 -- Assumes nothing.
+use Rattle.std.specs.Prelude.{None, Option, Some}
 use Prim.Native.Nat.{ℕ, ◌+◌, ◌-◌, ◌≤◌, max}
 use mathlib.Core.Path.{◌≡◌, refl, ap}
 use mathlib.Core.Bool.{Bool, true, false, cond}
@@ -16,8 +17,6 @@ use Rattle.image.specs.Record.{cell_at}
 use Rattle.image.specs.Sound.{Sound}
 use Rattle.image.specs.Table.{Table, table_of, tree_in, times_of}
 use Rattle.image.specs.Tree.{Action, Actions, NoOp, Trans, KeyCode, MultipleKeyCodes, MultipleActions, Layer, DefaultLayer, HoldTap, end, ◌&◌, tree, weight, weights}
-use Rattle.image.specs.declared.record.Cell.{Cell}
-use Rattle.image.specs.declared.record.Cell.TheVariants as cell
 use Rattle.image.proofs.Accepted.{light}
 use Rattle.layout.specs.Model.{Model, Waiting, Idle, Waits, Done, still, lost, after, with_base, with_states, with_waiting}
 use Rattle.layout.specs.Actions.{push, push_codes, find, Ruling, Undecided, AtOnce, ruling, begins, do_action, do_actions, decided}
@@ -26,11 +25,9 @@ use Rattle.layout.specs.Packed.{hold_of, tap_of, waiting_of, unpack}
 use Rattle.layout.specs.Reach.{waits_in}
 use Rattle.layout.specs.declared.active.State.{State}
 use Rattle.layout.specs.declared.active.State.TheVariants.{NormalKey, LayerModifier}
-use Rattle.layout.specs.declared.active.Waiting.{Waiting as WaitingIn}
-use Rattle.layout.specs.declared.active.Waiting.TheVariants as waiting
+use Rattle.layout.specs.declared.active.WaitingState.{WaitingState}
 use Rattle.layout.specs.declared.notes.Way.{Way}
 use Rattle.layout.specs.declared.notes.Way.TheVariants.{Tap, Hold}
-use Rattle.layout.specs.declared.queue.Found.{Found}
 use Rattle.layout.specs.declared.layout.Layout.{Layout}
 use Rattle.layout.proofs.Limits.{Measured, event_within, tick_within, Weights, weighed, Calm, spare as spared, weighted, proper_cells, calm_held}
 use Rattle.demands.specs.Adding as by
@@ -46,7 +43,7 @@ ruled (AtOnce Hold) tap hold = hold
 
 -- how many states an action asks for
 unfoldable mutual
-  asks : Action → ℕ → Found → ℕ
+  asks : Action → ℕ → Option ℕ → ℕ
   asks NoOp d f = 0
   asks Trans d f = 0
   asks (KeyCode k) d f = 1
@@ -56,7 +53,7 @@ unfoldable mutual
   asks (DefaultLayer v) d f = 0
   asks (HoldTap i t h p) d f = ruled (ruling t d f) (asks p 0 f) (asks h 0 f)
 
-  asks_all : Actions → ℕ → Found → ℕ
+  asks_all : Actions → ℕ → Option ℕ → ℕ
   asks_all end d f = 0
   asks_all (a & as') d f = asks a d f + asks_all as' d f
 
@@ -86,7 +83,7 @@ module _ (g : ℕ → ℕ) (a : Additive Any g) (add : Adds) (adds : (s : State)
   mutual
     unfolding by.do_action asks
 
-    asked : (x : Action) (n : ℕ) (c : Coord) (d : ℕ) (f : Found) (l : Model) → Asked g (asks x d f) l (by.do_action add x n c d f l)
+    asked : (x : Action) (n : ℕ) (c : Coord) (d : ℕ) (f : Option ℕ) (l : Model) → Asked g (asks x d f) l (by.do_action add x n c d f l)
     asked NoOp n c d f l = asked_still l l refl
     asked Trans n c d f l = asked_still l l refl
     asked (KeyCode k) n c d f l = adds (NormalKey k c) l
@@ -101,7 +98,7 @@ module _ (g : ℕ → ℕ) (a : Additive Any g) (add : Adds) (adds : (s : State)
     asked (HoldTap i t h p) n c d f l =
         asked_begins (ruling t d f) c l (with_waiting (Waits c (t - d) i h p) l) _ _ _ _ refl (asked p n c 0 f (with_waiting Idle l)) (asked h n c 0 f (with_waiting Idle l))
 
-    asked_all : (xs : Actions) (n : ℕ) (c : Coord) (d : ℕ) (f : Found) (l : Model) → Asked g (asks_all xs d f) l (by.do_actions add xs n c d f l)
+    asked_all : (xs : Actions) (n : ℕ) (c : Coord) (d : ℕ) (f : Option ℕ) (l : Model) → Asked g (asks_all xs d f) l (by.do_actions add xs n c d f l)
     asked_all end n c d f l = asked_still l l refl
     asked_all (x & xs) n c d f l =
         let r = by.do_action add x n c d f l in
@@ -172,7 +169,7 @@ within_begins (AtOnce Hold) c w t h b x y z = z
 mutual
   unfolding do_action most
 
-  within : (x : Action) (n : ℕ) (c : Coord) (d : ℕ) (f : Found) (l : Model) → Within (most x + spare l.waiting) (do_action x n c d f l)
+  within : (x : Action) (n : ℕ) (c : Coord) (d : ℕ) (f : Option ℕ) (l : Model) → Within (most x + spare l.waiting) (do_action x n c d f l)
   within NoOp n c d f l = omega arith
   within Trans n c d f l = omega arith
   within (KeyCode k) n c d f l = within_push (NormalKey k c) l
@@ -189,7 +186,7 @@ mutual
       let y = within h n c 0 f (with_waiting Idle l) in
       within_begins (ruling t d f) c _ _ _ _ (omega arith) (omega (arith, x)) (omega (arith, y))
 
-  within_all : (xs : Actions) (n : ℕ) (c : Coord) (d : ℕ) (f : Found) (l : Model) → Within (most_all xs + spare l.waiting) (do_actions xs n c d f l)
+  within_all : (xs : Actions) (n : ℕ) (c : Coord) (d : ℕ) (f : Option ℕ) (l : Model) → Within (most_all xs + spare l.waiting) (do_actions xs n c d f l)
   within_all end n c d f l = omega arith
   within_all (x & xs) n c d f l = omega (arith, within x n c d f l, within_all xs n c d f (do_action x n c d f l).layout)
 
@@ -236,8 +233,8 @@ weighs (HoldTap i t h p) = omega arith
 -- every action that a press finds in an accepted table is light
 cell_light : (img : List ℕ) → Sound img → (c : Cell) → weight (tree_in img c) ≤ 64
 unfolding tree_in weight
-cell_light img s (cell.Record n) = light img n s
-cell_light img s cell.Outside = omega arith
+cell_light img s (Some n) = light img n s
+cell_light img s None = omega arith
 
 default_light : (a b : Action) → weight a ≤ 64 → weight b ≤ 64 → weight (or_default a b) ≤ 64
 default_light NoOp b x y = x
@@ -304,9 +301,9 @@ module _ (img : List ℕ) (s : Sound img) where
   lighter (HoldTap i t hold tap) h =
       omega (arith, fewer hold 61 (omega arith) (omega (arith, weighs tap)), fewer tap 61 (omega arith) (omega (arith, weighs hold)))
 
-  spare_held : (w : WaitingIn) → spare (waiting_of img w) ≤ 61
-  spare_held waiting.Nothing = omega arith
-  spare_held (waiting.On w) = lighter (tree img w.number) (light img w.number s)
+  spare_held : (w : Option WaitingState) → spare (waiting_of img w) ≤ 61
+  spare_held None = omega arith
+  spare_held (Some w) = lighter (tree img w.number) (light img w.number s)
 
   pub event_drops : (e : Event) (layout : Layout) → (event T e (unpack img layout)).dropped ≤ 124
   event_drops e layout = omega (arith, event_within T _ Calm spare 63 measured e (unpack img layout) (calm_held img (waits_in layout) s), spare_held (waits_in layout))

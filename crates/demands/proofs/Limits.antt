@@ -1,12 +1,12 @@
 -- The limits of an answer: what a call does is limited, and its answer names it all. Document 01, Layout, its last paragraph.
 -- Assumes nothing.
+use Rattle.refusal.specs.Verdict.{Verdict, refused}
+use Rattle.std.specs.Prelude.{Ok, Err}
 use Prim.Native.Nat.{ℕ, ◌≤◌}
 use mathlib.Core.Path.{◌≡◌, refl}
 use mathlib.Core.List.{List}
 use native.Mathlib.Omega.{arith}
 use lib.ListN.{length}
-use Rattle.refusal.specs.declared.Verdict.{Verdict}
-use Rattle.refusal.specs.declared.Verdict.TheVariants.{Fine, Refused}
 use Rattle.image.specs.Sound.{Sound}
 use Rattle.image.specs.Table.{table_of}
 use Rattle.layout.specs.Model.{Model, Done}
@@ -30,10 +30,10 @@ module _ (image : List ℕ) (f : Model → Done) (most : ℕ) (two : most ≤ 2)
   named = by (judged_of image layout (length buffer)) refl
     where
       by : (j : Verdict) → judged_of image layout (length buffer) ≡ j → let ms = marks_if (judged_of image layout (length buffer)) (f (unpack image layout)) in Limits most ms × Names ms (replied image f layout buffer)
-      by Fine e =
+      by (Ok u) e =
           let x = within (judged_fine image layout (length buffer) e).0 in
           rw e (x, record { acted = noted_acted (f (unpack image layout)).marks x.acts; decided = noted_all (f (unpack image layout)).marks (omega (arith, x.decides)) })
-      by (Refused r place) e = rw e (record { acts = omega arith; decides = omega arith }, record { acted = refl; decided = refl })
+      by (Err f) e = rw e (record { acts = omega arith; decides = omega arith }, record { acted = refl; decided = refl })
 
 pub of_calls : OfCalls
 unfolding OfCalls step reply

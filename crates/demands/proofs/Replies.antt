@@ -1,5 +1,6 @@
 -- A run of the public calls over an accepted image, on a layout that was packed, is the run of the steps on its lists.
 -- Assumes nothing.
+use Rattle.std.specs.Prelude.{Ok}
 use Prim.Native.Nat.{ℕ, zero, suc, ◌≤◌}
 use mathlib.Core.Path.{◌≡◌, refl, ap, ap₂, ◌∙◌}
 use mathlib.Core.List.{List, [], ◌∷◌, ◌++◌}
@@ -8,21 +9,19 @@ use lib.Dec.{leb}
 use lib.ListN.{length, drop, replicate}
 use lib.Seq.{take_at}
 use Rattle.lists.specs.Lists.{every, laid}
-use Rattle.refusal.specs.Verdict.{rule, or_else}
+use Rattle.refusal.specs.Verdict.{rule, or_else, Verdict, fine, refused}
 use Rattle.refusal.specs.declared.Refusal.TheVariants.{Room}
-use Rattle.refusal.specs.declared.Verdict.{Verdict}
-use Rattle.refusal.specs.declared.Verdict.TheVariants.{Fine}
 use Rattle.image.specs.Check.{check_of}
 use Rattle.image.specs.Sound.{Sound}
 use Rattle.image.specs.Table.{table_of}
 use Rattle.image.specs.declared.words.Shape.{Shape}
-use Rattle.image.specs.declared.rules.Checked.TheVariants.{Accepted}
 use Rattle.image.proofs.Accepted.{accepted}
 use Rattle.layout.specs.Model.{Model, Done}
 use Rattle.layout.specs.Steps.{event, tick, codes}
 use Rattle.layout.specs.Packed.{pack}
 use Rattle.layout.specs.Notes.{no_notes, noted}
-use Rattle.layout.specs.Calls.{told_of, Reply, codes_told, replied, judged_of, answer_of, layout_after, buffered}
+use Rattle.refusal.specs.Said.{said}
+use Rattle.layout.specs.Calls.{no_answer, Reply, codes_told, replied, judged_of, answer_of, layout_after, buffered}
 use Rattle.layout.specs.Reach.{Starts}
 use Rattle.layout.specs.declared.layout.Layout.{Layout}
 use Rattle.layout.proofs.Lawful.{Lawful, event_lawful, tick_lawful}
@@ -32,11 +31,11 @@ use Rattle.demands.specs.Public.{Lent, calls_of, ticks_on, lent_all, Roomy, step
 
 -- on a packed layout only the buffer can be too small
 abbrev pub room_for : List ℕ → Verdict
-room_for buffer = rule (leb 64 (length buffer)) Room 0 Fine
+room_for buffer = rule (leb 64 (length buffer)) Room 0 fine
 
 -- the reply to a verdict on a call whose step did so; and with nothing refused
 abbrev pub reply_with : Verdict → Done → Layout → List ℕ → Reply
-reply_with j done layout buffer = record { told = told_of (answer_of j done); layout = layout_after j done layout; buffer = buffered j done buffer }
+reply_with j done layout buffer = record { told = said no_answer (answer_of j done); layout = layout_after j done layout; buffer = buffered j done buffer }
 
 abbrev pub given : Done → List ℕ → Reply
 given done buffer =
@@ -49,15 +48,15 @@ given done buffer =
 pub given_codes : (done : Done) (buffer : List ℕ) → codes_told (given done buffer) ≡ codes done.layout.states
 given_codes done buffer = take_at (codes done.layout.states) (drop (length (codes done.layout.states)) buffer) (length (codes done.layout.states)) refl
 
-module _ (img : List ℕ) (shape : Shape) (e : check_of img ≡ Accepted shape) where
+module _ (img : List ℕ) (shape : Shape) (e : check_of img ≡ Ok shape) where
   sound : Sound img
   sound = (accepted img shape e).1
 
-  judged : (l : Model) (room : ℕ) → Lawful img l → judged_of img (pack l) room ≡ rule (leb 64 room) Room 0 Fine
+  judged : (l : Model) (room : ℕ) → Lawful img l → judged_of img (pack l) room ≡ rule (leb 64 room) Room 0 fine
   unfolding judged_of or_else rule
   judged l room w = rw (e, lawful_good img l w)
 
-  pub fine : (l : Model) (room : ℕ) → Lawful img l → 64 ≤ room → judged_of img (pack l) room ≡ Fine
+  pub fine : (l : Model) (room : ℕ) → Lawful img l → 64 ≤ room → judged_of img (pack l) room ≡ fine
   unfolding rule
   fine l room w h = judged l room w ∙ rw (le-leb 64 room h)
 

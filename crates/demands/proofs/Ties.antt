@@ -1,5 +1,6 @@
 -- The live tie is hold, and the queued tie is tap: by the tie of the public calls to the steps, of the layout as lists.
 -- Assumes nothing.
+use Rattle.std.specs.Prelude.{None, Some, Ok}
 use Prim.Native.Nat.{ℕ, zero, suc, ◌+◌, ◌-◌, ◌≤◌, ◌<◌}
 use mathlib.Core.Path.{◌≡◌, refl, sym, ap, ap₂, subst, ◌∙◌}
 use mathlib.Core.Bool.{true, false, cond, ◌&&◌}
@@ -19,7 +20,6 @@ use Rattle.image.specs.Sound.{Sound}
 use Rattle.image.specs.Table.{Table, table_of, times_of}
 use Rattle.image.specs.Tree.{Action, HoldTap}
 use Rattle.image.specs.declared.words.Shape.{Shape}
-use Rattle.image.specs.declared.rules.Checked.TheVariants.{Accepted}
 use Rattle.image.proofs.Accepted.{accepted}
 use Rattle.layout.specs.Actions.{is_release, find, AtOnce, ruling, begins, do_action, decided}
 use Rattle.layout.specs.Model.{Queued, Model, Waiting, Idle, Waits, Done, age_of, same, still, with_waiting, with_queue}
@@ -27,8 +27,6 @@ use Rattle.layout.specs.Packed.{waiting_in, pack}
 use Rattle.layout.specs.Notes.{decisions}
 use Rattle.layout.specs.Steps.{event, entered, released, older_one, older, tick, ticked, into, act, pressed}
 use Rattle.layout.specs.Reach.{waits_in}
-use Rattle.layout.specs.declared.queue.Found.TheVariants.{None, At}
-use Rattle.layout.specs.declared.active.Waiting.TheVariants as waiting
 use Rattle.layout.specs.declared.notes.Way.{Way}
 use Rattle.layout.specs.declared.notes.Way.TheVariants.{Tap, Hold}
 use Rattle.layout.specs.declared.layout.Layout.{Layout}
@@ -189,7 +187,7 @@ unfolding pressed
 key_rests t l c a e = e
 
 -- of the public calls
-module _ (img : List ℕ) (shape : Shape) (e : check_of img ≡ Accepted shape) (l : Model) (w : Lawful img l) where
+module _ (img : List ℕ) (shape : Shape) (e : check_of img ≡ Ok shape) (l : Model) (w : Lawful img l) where
   decides_as : (ks : List Lent) → Roomy ks → decided_by img (pack l) ks ≡ decisions (run (table_of img) (calls_of ks) l).marks
   decides_as ks h = names_decisions img ks (pack l) ∙ ap decisions (tied img shape e ks l w h).marks
 
@@ -199,7 +197,7 @@ module _ (img : List ℕ) (shape : Shape) (e : check_of img ≡ Accepted shape) 
   keyed_as : (c : Coord) (timeout : ℕ) (x : Keyed img (pack l) c timeout) → pressed (table_of img) c l ≡ HoldTap x.number timeout x.hold x.tap
   keyed_as c timeout x = sym (ap (pressed (table_of img) c) (unpack_pack img l w)) ∙ x.is
 
-  idle_of : (x : Waiting) → waiting_in x ≡ waiting.Nothing → x ≡ Idle
+  idle_of : (x : Waiting) → waiting_in x ≡ None → x ≡ Idle
   idle_of Idle h = refl
   idle_of (Waits d left n a b) h = let z : ◌≡◌ {A = ℕ} 0 1 = cc in absurd (omega arith)
 
@@ -258,7 +256,7 @@ unfolding ticks
 calls_after [] ks = refl
 calls_after (b ∷ gap) ks = ap (λ (x : List Call). Tick ∷ x) (calls_after gap ks)
 
-module _ (img : List ℕ) (shape : Shape) (e : check_of img ≡ Accepted shape) (l : Model) (w : Lawful img l) where
+module _ (img : List ℕ) (shape : Shape) (e : check_of img ≡ Ok shape) (l : Model) (w : Lawful img l) where
   behind : (d : Coord) (left n : ℕ) (hold tap : Action) → l.waiting ≡ Waits d left n hold tap → l.queue ≡ [] → (c : Coord) → same d c ≡ false
       → (p : List ℕ) (gap : List (List ℕ)) (r : List ℕ) (rest : List (List ℕ)) → Roomy (press_and_release c p gap r rest) → left ≡ length gap + length rest → 1 ≤ length rest → left < 65535
       → let after = last_layout (pack l) (replies img (press_and_release c p gap r rest) (pack l)) in

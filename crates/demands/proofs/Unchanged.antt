@@ -1,6 +1,8 @@
 -- Where no cell differs, every call is answered alike: the tables are equal without record numbers, each step leaves layouts that are,
 -- and no answer tells a number of a record.
 -- Assumes nothing.
+use Rattle.refusal.specs.Verdict.{Verdict}
+use Rattle.std.specs.Prelude.{Ok, Err}
 use Prim.Native.Nat.{ℕ}
 use mathlib.Core.Path.{◌≡◌, refl, ap, ap₂, sym, ◌∙◌}
 use mathlib.Core.Bool.{Bool, true, false, ◌&&◌}
@@ -9,14 +11,11 @@ use native.Mathlib.Omega.{arith}
 use lib.Dec.{eqb}
 use lib.ListN.{length, take}
 use Rattle.lists.specs.Lists.{has, every}
-use Rattle.refusal.specs.declared.Verdict.{Verdict}
-use Rattle.refusal.specs.declared.Verdict.TheVariants.{Fine, Refused}
 use Rattle.image.specs.Words.{shape_of}
 use Rattle.image.specs.Record.{cell_place, is_inside, cell_at}
 use Rattle.image.specs.Check.{check_of}
 use Rattle.image.specs.Table.{Table, tree_in, table_of}
 use Rattle.image.specs.declared.words.Shape.{Shape}
-use Rattle.image.specs.declared.rules.Checked.TheVariants.{Accepted}
 use Rattle.table_changes.specs.Same.{unnumbered}
 use Rattle.table_changes.specs.Changes.{changed}
 use Rattle.table_changes.specs.Listed.{Listing, Listed}
@@ -27,7 +26,8 @@ use Rattle.layout.specs.Packed.{pack}
 use Rattle.layout.specs.Notes.{acted_in, made_in}
 use Rattle.layout.specs.Reach.{FreshStarts}
 use Rattle.layout.specs.Calls.{Reply, answer_of, layout_after, buffered, keycodes_reply}
-use Rattle.layout.specs.declared.answer.Told.{Told}
+use Rattle.refusal.specs.Said.{Said}
+use Rattle.layout.specs.declared.answer.Answer.{Answer}
 use Rattle.layout.specs.declared.layout.Layout.{Layout}
 use Rattle.layout.proofs.Lawful.{Lawful}
 use Rattle.layout.proofs.Reach.{fresh_starts, starts_lawful}
@@ -40,35 +40,35 @@ use Rattle.demands.proofs.Unnumbered.{bare, bare_done, bare_table, call_bare}
 
 -- the lists of the layout after a verdict on a call whose step did so
 abbrev model_after : Verdict → Done → Model → Model
-model_after Fine done l = done.layout
-model_after (Refused refusal place) done l = l
+model_after (Ok u) done l = done.layout
+model_after (Err f) done l = l
 
 layout_after_lem : (j : Verdict) (done : Done) (l : Model) → layout_after j done (pack l) ≡ pack (model_after j done l)
 unfolding layout_after
-layout_after_lem Fine done l = refl
-layout_after_lem (Refused refusal place) done l = refl
+layout_after_lem (Ok u) done l = refl
+layout_after_lem (Err f) done l = refl
 
-module _ (img : List ℕ) (shape : Shape) (e : check_of img ≡ Accepted shape) where
+module _ (img : List ℕ) (shape : Shape) (e : check_of img ≡ Ok shape) where
   next_lawful : (j : Verdict) (k : Call) (l : Model) → Lawful img l → Lawful img (model_after j (call (table_of img) k l) l)
-  next_lawful Fine k l w = stays_lawful img shape e k l w
-  next_lawful (Refused refusal place) k l w = w
+  next_lawful (Ok u) k l w = stays_lawful img shape e k l w
+  next_lawful (Err f) k l w = w
 
 -- an answer tells no record number, nor does a buffer hold one
 bare_answer : (j : Verdict) (done : Done) (was lay : Layout) (buffer : List ℕ) → answered (reply_with j done was buffer) ≡ answered (reply_with j (bare_done done) lay buffer)
 unfolding answer_of buffered
-bare_answer Fine done was lay buffer = refl
-bare_answer (Refused refusal place) done was lay buffer = refl
+bare_answer (Ok u) done was lay buffer = refl
+bare_answer (Err f) done was lay buffer = refl
 
 same_answer : (j : Verdict) (x y : Done) (was lay : Layout) (buffer : List ℕ) → bare_done x ≡ bare_done y → answered (reply_with j x was buffer) ≡ answered (reply_with j y lay buffer)
 same_answer j x y was lay buffer e =
     bare_answer j x was was buffer ∙ ap (λ (done : Done). answered (reply_with j done was buffer)) e ∙ sym (bare_answer j y lay was buffer)
 
 same_after : (j : Verdict) (x y : Done) (l m : Model) → bare_done x ≡ bare_done y → bare l ≡ bare m → bare (model_after j x l) ≡ bare (model_after j y m)
-same_after Fine x y l m e f = ap (λ (done : Done). done.layout) e
-same_after (Refused refusal place) x y l m e f = f
+same_after (Ok u) x y l m e f = ap (λ (done : Done). done.layout) e
+same_after (Err f) x y l m e f = f
 
 -- calls, and `keycodes` after them, are answered alike
-abbrev keycodes_after : List ℕ → List Lent → Layout → List ℕ → Told × List ℕ
+abbrev keycodes_after : List ℕ → List Lent → Layout → List ℕ → Said Answer × List ℕ
 keycodes_after image ks layout buffer = answered (keycodes_reply image (last_layout layout (replies image ks layout)) buffer)
 
 abbrev AnswerAlike : List ℕ → List ℕ → List Lent → Layout → Layout → Type 0
@@ -154,7 +154,7 @@ unfolding NoCodesChange Listed
 no_codes_change first second out e calls buffer = (fresh_runs first second (compares first second out 0 e) (listed first second out 0 e) calls).1 buffer
 
 -- what an answer says, and that it is no refusal, is in what was handed back beside the layout
-abbrev says_of : Told × List ℕ → Says
+abbrev says_of : Said Answer × List ℕ → Says
 says_of (told, buffer) =
     record {
       number = told.number;
@@ -170,7 +170,7 @@ unfolding says
 says_all [] = refl
 says_all (r ∷ rs) = ap (λ (x : List Says). says r ∷ x) (says_all rs)
 
-refused_none : (rs : List Reply) → every (λ (r : Reply). eqb r.told.number 0) rs ≡ every (λ (a : Told × List ℕ). eqb a.0.number 0) (map answered rs)
+refused_none : (rs : List Reply) → every (λ (r : Reply). eqb r.told.number 0) rs ≡ every (λ (a : Said Answer × List ℕ). eqb a.0.number 0) (map answered rs)
 refused_none [] = refl
 refused_none (r ∷ rs) = ap (λ (t : Bool). eqb r.told.number 0 && t) (refused_none rs)
 
@@ -180,6 +180,6 @@ same_answers first second out e calls none =
     let all = (fresh_runs first second (compares first second out 0 e) (listed first second out 0 e) calls).0 in
     let one = replies first calls (pack fresh) in
     let other = replies second calls (pack fresh) in (
-      refused_none other ∙ ap (every (λ (a : Told × List ℕ). eqb a.0.number 0)) (sym all) ∙ sym (refused_none one) ∙ none,
+      refused_none other ∙ ap (every (λ (a : Said Answer × List ℕ). eqb a.0.number 0)) (sym all) ∙ sym (refused_none one) ∙ none,
       says_all one ∙ ap (map says_of) all ∙ sym (says_all other),
     )

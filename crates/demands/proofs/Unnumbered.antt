@@ -1,6 +1,7 @@
 -- Record numbers do not matter to a layout: each step over trees without them leaves what the step leaves, but for them. Of a layout
 -- the number of what waits is put to 0, and its hold and tap are without numbers.
 -- Assumes nothing.
+use Rattle.std.specs.Prelude.{Option}
 use Prim.Native.Nat.{ℕ, zero, suc, ◌-◌}
 use mathlib.Core.Path.{◌≡◌, refl, ap, ap₂, ◌∙◌}
 use mathlib.Core.Bool.{Bool, true, false, cond}
@@ -20,7 +21,6 @@ use Rattle.layout.specs.declared.active.State.{State}
 use Rattle.layout.specs.declared.active.State.TheVariants.{NormalKey, LayerModifier}
 use Rattle.layout.specs.declared.notes.Way.{Way}
 use Rattle.layout.specs.declared.notes.Way.TheVariants.{Tap, Hold}
-use Rattle.layout.specs.declared.queue.Found.{Found}
 use Rattle.demands.specs.Runs.{Call, Tick, Enter, call}
 
 -- without record numbers: what waits, a layout, what a step leaves, a table
@@ -71,7 +71,7 @@ begins_bare (AtOnce Hold) c waits tapped held tapped' held' e f = rw f
 mutual
   unfolding unnumbered do_action
 
-  do_bare : (a : Action) (n : ℕ) (c : Coord) (d : ℕ) (f : Found) (l : Model) → do_action (unnumbered a) n c d f (bare l) ≡ bare_done (do_action a n c d f l)
+  do_bare : (a : Action) (n : ℕ) (c : Coord) (d : ℕ) (f : Option ℕ) (l : Model) → do_action (unnumbered a) n c d f (bare l) ≡ bare_done (do_action a n c d f l)
   do_bare NoOp n c d f l = refl
   do_bare Trans n c d f l = refl
   do_bare (KeyCode k) n c d f l = push_bare (NormalKey k c) l
@@ -82,7 +82,7 @@ mutual
   do_bare (HoldTap i timeout hold tap) n c d f l =
       begins_bare (ruling timeout d f) c (with_waiting (Waits c (timeout - d) i hold tap) l) _ _ _ _ (do_bare tap n c 0 f (with_waiting Idle l)) (do_bare hold n c 0 f (with_waiting Idle l))
 
-  do_bares : (as' : Actions) (n : ℕ) (c : Coord) (d : ℕ) (f : Found) (l : Model) → do_actions (unnumbered_all as') n c d f (bare l) ≡ bare_done (do_actions as' n c d f l)
+  do_bares : (as' : Actions) (n : ℕ) (c : Coord) (d : ℕ) (f : Option ℕ) (l : Model) → do_actions (unnumbered_all as') n c d f (bare l) ≡ bare_done (do_actions as' n c d f l)
   do_bares end n c d f l = refl
   do_bares (a & as') n c d f l =
       then_bare (do_action a n c d f l) (do_action (unnumbered a) n c d f (bare l)) (do_actions as' n c d f) (do_actions (unnumbered_all as') n c d f) (do_bare a n c d f l) (do_bares as' n c d f)
@@ -91,7 +91,7 @@ chosen_bare : (way : Way) (hold tap : Action) → chosen way (unnumbered hold) (
 chosen_bare Tap hold tap = refl
 chosen_bare Hold hold tap = refl
 
-decided_bare : (way : Way) (hold tap : Action) (n : ℕ) (c : Coord) (f : Found) (l : Model)
+decided_bare : (way : Way) (hold tap : Action) (n : ℕ) (c : Coord) (f : Option ℕ) (l : Model)
     → decided way (unnumbered hold) (unnumbered tap) n c f (bare l) ≡ bare_done (decided way hold tap n c f l)
 unfolding decided
 decided_bare way hold tap n c f l = rw (chosen_bare way hold tap) (ap (marked (Decided c way)) (do_bare (chosen way hold tap) n c 0 f (with_waiting Idle l)))

@@ -1,5 +1,6 @@
 -- The case that reaches the bound of demand 3, and the one that meets what it asks for, computed from the image's bytes.
 -- Assumes nothing.
+use Rattle.std.specs.Prelude.{Ok}
 use Prim.Native.Nat.{ℕ, zero, suc, ◌+◌, ◌*◌, ◌≤◌, ◌<◌, max}
 use mathlib.Core.Path.{◌≡◌, refl, ap, ◌∙◌}
 use mathlib.Core.Bool.{Bool, true, false, cond}
@@ -19,7 +20,6 @@ use Rattle.image.specs.Tree.{KeyCode, named, meaning, trees, tree, open?, some_o
 use Rattle.image.specs.Table.{tree_in, table_of, longest_below, times_of}
 use Rattle.refusal.specs.Verdict.{rule, or_else, first_fault}
 use Rattle.image.specs.Check.{within, counts_good, offsets_good, header_good, head_fault, cell_fault, form, form_good, record_fault, body_fault, fault_of, answer, check_of}
-use Rattle.image.specs.declared.rules.Checked.TheVariants.{Accepted}
 use Rattle.layout.specs.Model.{Waits, Acted, Begun, Decided, fresh, same}
 use Rattle.layout.specs.Actions.{push, push_codes, find, ruling, do_action, decided}
 use Rattle.layout.specs.Steps.{held, sum, current, pressed, release, act, into, released, overflow, entered, event, ticked, tick}
@@ -50,7 +50,7 @@ module _ (t : ℕ) where
   z_bytes h = bytes_of (z_of t) (rw (lt-ltb t 256 h))
 
   -- the check does not look at a timeout
-  z_accepted : check_of (z_of t) ≡ Accepted (shape_of (z_of t))
+  z_accepted : check_of (z_of t) ≡ Ok (shape_of (z_of t))
   unfolding z_of legal word_at cell_of field_of entry_of entries action_of action_at codes_in children_in list_end named meaning trees tree open? some_open shut_but_last opens_last weight rule or_else first_fault within counts_good offsets_good header_good head_fault cell_fault form form_good record_fault body_fault fault_of answer check_of
   z_accepted = refl
 

@@ -5,7 +5,7 @@
 --     silent    as before document 02, W-202: a 65th is dropped, and nobody is told
 --     kept      with room for any number of states
 -- Assumes nothing.
-use Rattle.std.specs.Prelude.{ℕ, zero, suc, ◌-◌, cond, List, [], ◌∷◌, ◌++◌, ltb, length}
+use Rattle.std.specs.Prelude.{ℕ, zero, suc, ◌-◌, cond, List, [], ◌∷◌, ◌++◌, ltb, length, Option}
 use Rattle.event.specs.declared.Coord.{Coord}
 use Rattle.event.specs.declared.Event.{Event}
 use Rattle.event.specs.declared.Event.TheVariants.{Release, Press}
@@ -18,7 +18,6 @@ use Rattle.layout.specs.declared.active.State.{State}
 use Rattle.layout.specs.declared.active.State.TheVariants.{NormalKey, LayerModifier}
 use Rattle.layout.specs.declared.notes.Way.{Way}
 use Rattle.layout.specs.declared.notes.Way.TheVariants.{Tap, Hold}
-use Rattle.layout.specs.declared.queue.Found.{Found}
 
 abbrev pub Adds : Type 0
 Adds = State → Model → Done
@@ -35,7 +34,7 @@ module _ (add : Adds) where
   push_codes (k ∷ ks) c l = let r = add (NormalKey k c) l in after r (push_codes ks c r.layout)
 
   unfoldable mutual
-    pub do_action : Action → ℕ → Coord → ℕ → Found → Model → Done
+    pub do_action : Action → ℕ → Coord → ℕ → Option ℕ → Model → Done
     do_action NoOp n c d f l = still l
     do_action Trans n c d f l = still l
     do_action (KeyCode k) n c d f l = add (NormalKey k c) l
@@ -49,7 +48,7 @@ module _ (add : Adds) where
         (do_action tap n c 0 f (with_waiting Idle l))
         (do_action hold n c 0 f (with_waiting Idle l))
 
-    pub do_actions : Actions → ℕ → Coord → ℕ → Found → Model → Done
+    pub do_actions : Actions → ℕ → Coord → ℕ → Option ℕ → Model → Done
     do_actions end n c d f l = still l
     do_actions (action & actions) n c d f l = let r = do_action action n c d f l in after r (do_actions actions n c d f r.layout)
 

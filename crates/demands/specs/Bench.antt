@@ -7,7 +7,8 @@ use Rattle.event.specs.declared.Coord.{Coord}
 use Rattle.event.specs.declared.Event.{Event}
 use Rattle.event.specs.declared.Event.TheVariants.{Release, Press}
 use Rattle.codes.specs.Report.{report_of}
-use Rattle.image.specs.Check.{check_of, told_of}
+use Rattle.refusal.specs.Said.{said}
+use Rattle.image.specs.Check.{check_of, no_shape}
 use Rattle.image.specs.Use.{source_of, source_said}
 use Rattle.debounce.specs.Calls.{new_reply, events_reply}
 use Rattle.debounce.specs.declared.Debouncer.{Debouncer}
@@ -68,9 +69,9 @@ says r =
       number = r.told.number;
       place = r.told.place;
       codes = codes_told r;
-      acted = acted_in r.told.notes.acted;
-      decided = made_in r.told.notes;
-      dropped = r.told.notes.dropped;
+      acted = acted_in r.told.values.notes.acted;
+      decided = made_in r.told.values.notes;
+      dropped = r.told.values.notes.dropped;
     }
 
 -- one scan after the other, one buffer lent to each, as the contract of `Debouncer::events` has it: three bytes an event
@@ -82,7 +83,7 @@ scans (scan ∷ rest) d buffer =
     record { number = r.answer.number; events = events } ∷ scans rest r.answer.values.1 r.buffer
 
 unfoldable pub outcome : Input → Output
-outcome (Check image) = let t = told_of (check_of image) in CheckTold t.number t.place
+outcome (Check image) = let t = said no_shape (check_of image) in CheckTold t.number t.place
 outcome (Areas operator built_in) =
     let t = source_said (source_of operator built_in) in
     Used t.number t.place t.values.operator t.values.size

@@ -8,7 +8,7 @@ use mathlib.Core.List.{List, [], ◌∷◌, ◌++◌, flatten}
 use Rattle.event.specs.declared.Coord.{Coord}
 use Rattle.event.specs.declared.Event.TheVariants.{Press}
 use Rattle.table_changes.specs.Changes.{said_of, compare_reply}
-use Rattle.table_changes.specs.declared.Compared.TheVariants.{Cells}
+use Rattle.std.specs.Prelude.{Ok}
 use Rattle.layout.specs.Model.{fresh}
 use Rattle.layout.specs.Packed.{waits_at}
 use Rattle.layout.specs.Reach.{waits_in}
@@ -98,7 +98,7 @@ pub record Answer : Type 0 where
 unfoldable pub compared : List ℕ → List ℕ → ℕ → Answer
 compared first second room =
     let r = compare_reply first second (replicate room 0xFF) in
-    let s = said_of r.compared in
+    let s = said 0 r.compared in
     record { number = s.number; place = s.place; count = s.values; buffer = r.buffer }
 
 -- these bytes are listed, three a cell, and so many more are as they were; or it is refused, and all are
@@ -122,7 +122,7 @@ waits_over image = waits_in (after_calls image fresh (lent_all lent (Enter (Pres
 pub record Cases : Type 0 where
   -- other record numbers, a record fewer: no cell differs, though what waits is kept by another number
   pub renumbered : compared z z_renumbered 6 ≡ listed [] 6
-  pub asked : (compare_reply z z_renumbered (replicate 6 0xFF)).compared ≡ Cells 0
+  pub asked : (compare_reply z z_renumbered (replicate 6 0xFF)).compared ≡ Ok 0
   pub other_length : (length z ≡ 52) × (length z_renumbered ≡ 44)
   pub other_number :
       let c : Coord = record { i = 0; j = 0 } in

@@ -7,18 +7,17 @@
 --     OfFresh      the case of a fresh layout
 --     Heard        a call that is not refused has such an image and such a buffer, so the demand holds wherever none is
 -- Assumes nothing.
-use Rattle.std.specs.Prelude.{ℕ, ◌≤◌, ◌<◌, ◌≡◌, List, [], ◌∷◌, ◌++◌, length, replicate, get_or}
+use Rattle.refusal.specs.Verdict.{refused}
+use Rattle.std.specs.Prelude.{ℕ, ◌≤◌, ◌<◌, ◌≡◌, List, [], ◌∷◌, ◌++◌, length, replicate, get_or, None, Some, Ok}
 use Rattle.codes.specs.Report.{report_of}
 use Rattle.image.specs.Check.{check_of}
 use Rattle.image.specs.Table.{times_of}
 use Rattle.image.specs.declared.words.Shape.{Shape}
-use Rattle.image.specs.declared.rules.Checked.TheVariants.{Accepted}
 use Rattle.layout.specs.Model.{Model, Mark, fresh}
 use Rattle.layout.specs.Packed.{pack}
 use Rattle.layout.specs.Notes.{acted_on, decisions}
 use Rattle.layout.specs.Calls.{Reply}
 use Rattle.layout.specs.Reach.{held_in, queued_in, waits_in, Starts}
-use Rattle.layout.specs.declared.active.Waiting.TheVariants as waiting
 use Rattle.layout.specs.declared.layout.Layout.{Layout}
 use Rattle.demands.specs.Runs.{Call, arrived}
 use Rattle.demands.specs.Answers.{named_events, named_decisions}
@@ -43,7 +42,7 @@ bound_of image start calls = bound (queued_in (after_calls image start calls)) (
 -- the queue is empty and nothing waits
 pub record AtRest (layout : Layout) : Type 0 where
   pub empty : queued_in layout ≡ 0
-  pub idle : waits_in layout ≡ waiting.Nothing
+  pub idle : waits_in layout ≡ None
 
 -- for the calls on a layout over the image, then ticks alone, each lent a buffer of its own
 pub record Demand3 (image : List ℕ) (start : Model) (calls : List Lent) : Type 0 where
@@ -76,18 +75,18 @@ pub record Demand3 (image : List ℕ) (start : Model) (calls : List Lent) : Type
 
 unfoldable pub OfImages : Type 0
 OfImages =
-    (image : List ℕ) (shape : Shape) → ((i : ℕ) → get_or image i 0 < 256) → check_of image ≡ Accepted shape
+    (image : List ℕ) (shape : Shape) → ((i : ℕ) → get_or image i 0 < 256) → check_of image ≡ Ok shape
     → (start : Model) → Starts image start → (calls : List Lent) → Roomy calls → Demand3 image start calls
 
 unfoldable pub OfFresh : Type 0
 OfFresh =
-    (image : List ℕ) (shape : Shape) → ((i : ℕ) → get_or image i 0 < 256) → check_of image ≡ Accepted shape
+    (image : List ℕ) (shape : Shape) → ((i : ℕ) → get_or image i 0 < 256) → check_of image ≡ Ok shape
     → (calls : List Lent) → Roomy calls → Demand3 image fresh calls
 
 -- what a call that is not refused was given. So `OfImages` speaks of every run in which there is a call and none is refused
 pub record Given (image buffer : List ℕ) : Type 0 where
   pub shape : Shape
-  pub accepted : check_of image ≡ Accepted shape
+  pub accepted : check_of image ≡ Ok shape
   pub room : 64 ≤ length buffer
 
 unfoldable pub Heard : Type 0

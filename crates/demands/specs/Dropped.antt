@@ -10,17 +10,15 @@
 --     NothingLost  where every count of a run is 0, its answers are those of the same steps with room for any number of states,
 --                  and so is the layout that it leaves: the 64 never mattered
 -- Assumes nothing.
-use Rattle.std.specs.Prelude.{ℕ, ◌+◌, ◌≤◌, ◌≡◌, true, List, [], ◌∷◌, map, eqb, length}
+use Rattle.refusal.specs.Verdict.{Verdict, refused}
+use Rattle.std.specs.Prelude.{ℕ, ◌+◌, ◌≤◌, ◌≡◌, true, List, [], ◌∷◌, map, eqb, length, Option, Ok, Err}
 use Rattle.lists.specs.Lists.{every}
-use Rattle.refusal.specs.declared.Verdict.{Verdict}
-use Rattle.refusal.specs.declared.Verdict.TheVariants.{Fine, Refused}
 use Rattle.event.specs.declared.Coord.{Coord}
 use Rattle.event.specs.declared.Event.{Event}
 use Rattle.image.specs.Check.{check_of}
 use Rattle.image.specs.Table.{Table, table_of}
 use Rattle.image.specs.Tree.{Action}
 use Rattle.image.specs.declared.words.Shape.{Shape}
-use Rattle.image.specs.declared.rules.Checked.TheVariants.{Accepted}
 use Rattle.layout.specs.Model.{Model, Done}
 use Rattle.layout.specs.Actions.{push, do_action}
 use Rattle.layout.specs.Steps.{codes, sum}
@@ -29,7 +27,6 @@ use Rattle.layout.specs.Notes.{acted_on, decisions, acted_in, made_in}
 use Rattle.layout.specs.Calls.{judged_of, Reply, codes_told, replied, keycodes_reply}
 use Rattle.layout.specs.Reach.{Starts}
 use Rattle.layout.specs.declared.notes.Way.{Way}
-use Rattle.layout.specs.declared.queue.Found.{Found}
 use Rattle.layout.specs.declared.layout.Layout.{Layout}
 use Rattle.demands.specs.Runs.{Call, Tick, Enter}
 use Rattle.demands.specs.Public.{Lent, calls_of, Roomy, reply, replies, step, after_calls}
@@ -39,14 +36,14 @@ use Rattle.demands.specs.Adding.{Adds, silent, kept}
 -- an action runs by the layout's own steps, and with room for any number of states
 unfoldable pub Missing : Type 0
 Missing =
-    (a : Action) (n : ℕ) (c : Coord) (d : ℕ) (f : Found) (l : Model)
+    (a : Action) (n : ℕ) (c : Coord) (d : ℕ) (f : Option ℕ) (l : Model)
     → let own = do_action a n c d f l in
     length (by.do_action kept a n c d f l).layout.states ≡ length own.layout.states + own.dropped
 
 -- what a call dropped, by its step; a refused call drops nothing
 unfoldable pub dropped_if : Verdict → Done → ℕ
-dropped_if Fine done = done.dropped
-dropped_if (Refused refusal place) done = 0
+dropped_if (Ok u) done = done.dropped
+dropped_if (Err f) done = 0
 
 abbrev pub dropped_by : List ℕ → Call → Layout → List ℕ → ℕ
 dropped_by image k layout buffer = dropped_if (judged_of image layout (length buffer)) (step image k layout)
@@ -58,7 +55,7 @@ most_dropped (Enter e) = 124
 
 -- the count that an answer tells
 abbrev pub count_in : Reply → ℕ
-count_in r = r.told.notes.dropped
+count_in r = r.told.values.notes.dropped
 
 unfoldable pub Told : Type 0
 Told =
@@ -121,7 +118,7 @@ pub record Said : Type 0 where
   pub decided : List (Coord × Way)
 
 abbrev pub said_in : Reply → Said
-said_in r = record { codes = codes_told r; acted = acted_in r.told.notes.acted; decided = made_in r.told.notes }
+said_in r = record { codes = codes_told r; acted = acted_in r.told.values.notes.acted; decided = made_in r.told.values.notes }
 
 abbrev pub said_by : Done → Said
 said_by done = record { codes = codes done.layout.states; acted = acted_on done.marks; decided = decisions done.marks }
@@ -142,6 +139,6 @@ pub record Full (image : List ℕ) (start : Model) (calls : List Lent) : Type 0 
 
 unfoldable pub NothingLost : Type 0
 NothingLost =
-    (image : List ℕ) (shape : Shape) → check_of image ≡ Accepted shape → (start : Model) → Starts image start
+    (image : List ℕ) (shape : Shape) → check_of image ≡ Ok shape → (start : Model) → Starts image start
     → (calls : List Lent) → Roomy calls → every (λ n. eqb n 0) (counts_in (replies image calls (pack start))) ≡ true
     → Full image start calls

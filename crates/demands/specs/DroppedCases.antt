@@ -26,7 +26,7 @@ five_or_one = Enter (Press 0 3)
 
 -- how many codes each answer tells, and how many states were dropped in its call
 unfoldable pub counts_of : List ℕ → List Call → List (ℕ × ℕ)
-counts_of image calls = map (λ (r : Reply). (r.told.codes, count_in r)) (replies image (lent_all lent calls) (pack fresh))
+counts_of image calls = map (λ (r : Reply). (r.told.values.codes, count_in r)) (replies image (lent_all lent calls) (pack fresh))
 
 unfoldable pub counts : List Call → List (ℕ × ℕ)
 counts calls = counts_of crowded calls

@@ -18,8 +18,8 @@ most (Enter e) = 2
 
 -- the answer names just what the call did
 pub record Names (marks : List Mark) (r : Reply) : Type 0 where
-  pub acted : acted_in r.told.notes.acted ≡ acted_on marks
-  pub decided : made_in r.told.notes ≡ decisions marks
+  pub acted : acted_in r.told.values.notes.acted ≡ acted_on marks
+  pub decided : made_in r.told.values.notes ≡ decisions marks
 
 unfoldable pub OfCalls : Type 0
 OfCalls =

@@ -3,10 +3,9 @@
 -- (crates/layout/proofs/Unique.antt). In a run each call is on the layout that the one before it handed back, over one image,
 -- and each with a buffer of its own. What it may start from is `Starts` of crates/layout/specs/Reach.antt.
 -- Assumes nothing.
-use Rattle.std.specs.Prelude.{ℕ, ◌≤◌, ◌≡◌, true, List, [], ◌∷◌, ◌++◌, map, eqb, length}
+use Rattle.refusal.specs.Verdict.{Verdict, refused}
+use Rattle.std.specs.Prelude.{ℕ, ◌≤◌, ◌≡◌, true, List, [], ◌∷◌, ◌++◌, map, eqb, length, Ok, Err}
 use Rattle.lists.specs.Lists.{every}
-use Rattle.refusal.specs.declared.Verdict.{Verdict}
-use Rattle.refusal.specs.declared.Verdict.TheVariants.{Fine, Refused}
 use Rattle.image.specs.Table.{table_of}
 use Rattle.layout.specs.Model.{Model, Mark, Done}
 use Rattle.layout.specs.Steps.{event, tick}
@@ -53,8 +52,8 @@ step image Tick layout = tick (table_of image) (unpack image layout)
 step image (Enter e) layout = event (table_of image) e (unpack image layout)
 
 unfoldable pub marks_if : Verdict → Done → List Mark
-marks_if Fine done = done.marks
-marks_if (Refused refusal place) done = []
+marks_if (Ok u) done = done.marks
+marks_if (Err f) done = []
 
 abbrev pub did_by : List ℕ → Call → Layout → List ℕ → List Mark
 did_by image k layout buffer = marks_if (judged_of image layout (length buffer)) (step image k layout)
@@ -80,7 +79,7 @@ last_codes codes (r ∷ rs) = last_codes (codes_told r) rs
 
 -- what the answers name
 abbrev pub notes_of : List Reply → List Notes
-notes_of rs = map (λ (r : Reply). r.told.notes) rs
+notes_of rs = map (λ (r : Reply). r.told.values.notes) rs
 
 -- no answer is a refusal: each has number 0
 unfoldable pub NoneRefused : List Reply → Type 0

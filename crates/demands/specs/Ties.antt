@@ -3,14 +3,13 @@
 --     LiveTie       the press is acted on at its first tick: at the tick of the tie, before the release can come, it is hold
 --     QueuedTie     press and release are queued behind another key's wait: the release decides it, and it is tap
 -- Assumes nothing.
-use Rattle.std.specs.Prelude.{ℕ, suc, ◌+◌, ◌≤◌, ◌<◌, ◌≡◌, false, List, [], ◌∷◌, ◌++◌, length}
+use Rattle.std.specs.Prelude.{ℕ, suc, ◌+◌, ◌≤◌, ◌<◌, ◌≡◌, false, List, [], ◌∷◌, ◌++◌, length, Ok}
 use Rattle.event.specs.declared.Coord.{Coord}
 use Rattle.event.specs.declared.Event.TheVariants.{Release, Press}
 use Rattle.image.specs.Check.{check_of}
 use Rattle.image.specs.Table.{table_of}
 use Rattle.image.specs.Tree.{Action, HoldTap}
 use Rattle.image.specs.declared.words.Shape.{Shape}
-use Rattle.image.specs.declared.rules.Checked.TheVariants.{Accepted}
 use Rattle.layout.specs.Model.{Waits, same}
 use Rattle.layout.specs.Steps.{pressed}
 use Rattle.layout.specs.Packed.{unpack}
@@ -50,7 +49,7 @@ pub record Live (image : List ℕ) (layout : Layout) (c : Coord) (timeout : ℕ)
 -- nothing waits and nothing is queued, whatever is held; the timeout is 2 or more
 unfoldable pub LiveTie : Type 0
 LiveTie =
-    (image : List ℕ) (shape : Shape) → check_of image ≡ Accepted shape
+    (image : List ℕ) (shape : Shape) → check_of image ≡ Ok shape
     → (layout : Layout) → Reached image layout → AtRest layout
     → (c : Coord) (timeout : ℕ) → 2 ≤ timeout → Keyed image layout c timeout → Live image layout c timeout
 
@@ -76,7 +75,7 @@ pub record Behind (image : List ℕ) (layout : Layout) (c : Coord) (gap timeout 
 -- another key waits, and its ticks end with the last of the calls. Ages stop at 65,535, so they are fewer than that
 unfoldable pub QueuedTie : Type 0
 QueuedTie =
-    (image : List ℕ) (shape : Shape) → check_of image ≡ Accepted shape
+    (image : List ℕ) (shape : Shape) → check_of image ≡ Ok shape
     → (layout : Layout) → Reached image layout
     → (d : Coord) (left : ℕ) → Held image layout d left → (c : Coord) → same d c ≡ false
     → (p : List ℕ) (gap : List (List ℕ)) (r : List ℕ) (rest : List (List ℕ)) → Roomy (press_and_release c p gap r rest)

@@ -7,24 +7,26 @@
 --                       and give equal codes, acted-on events, decisions and counts of dropped states (W-202), call by call
 -- The layouts themselves may differ in one word: a HoldTap that waits is kept by the number of its record.
 -- Assumes nothing.
+use Rattle.refusal.specs.Verdict.{refused}
 use Rattle.std.specs.Prelude.{◌≡◌, List, map, ℕ}
 use Rattle.table_changes.specs.Changes.{compare_reply}
-use Rattle.table_changes.specs.declared.Compared.TheVariants.{Cells}
+use Rattle.std.specs.Prelude.{Ok}
 use Rattle.layout.specs.Model.{fresh}
 use Rattle.layout.specs.Packed.{pack}
 use Rattle.layout.specs.Calls.{Reply, keycodes_reply}
-use Rattle.layout.specs.declared.answer.Told.{Told}
+use Rattle.refusal.specs.Said.{Said}
+use Rattle.layout.specs.declared.answer.Answer.{Answer}
 use Rattle.demands.specs.Public.{Lent, replies, after_calls, NoneRefused}
 use Rattle.demands.specs.Bench.{says}
 
 -- all that a call hands back but the layout: number, place, how many codes, the event, the decisions and how many states were
 -- dropped; and its buffer
-abbrev pub answered : Reply → Told × List ℕ
+abbrev pub answered : Reply → Said Answer × List ℕ
 answered r = (r.told, r.buffer)
 
 -- the list of changed cells is empty: there was no refusal, so both images are accepted, and L, R and C are equal
 abbrev pub NoneChanged : List ℕ → List ℕ → List ℕ → Type 0
-NoneChanged first second out = (compare_reply first second out).compared ≡ Cells 0
+NoneChanged first second out = (compare_reply first second out).compared ≡ Ok 0
 
 -- calls one after the other on a fresh layout
 abbrev pub fresh_replies : List ℕ → List Lent → List Reply

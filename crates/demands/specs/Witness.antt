@@ -1,12 +1,11 @@
 -- That demand 3 says something: a case that reaches its bound, and one that meets all that it asks for. Both are document
 -- 01's image Z, "Bench cases".
 -- Assumes nothing.
-use Rattle.std.specs.Prelude.{ℕ, ◌≤◌, ◌<◌, ◌≡◌, List, [], ◌∷◌, length, replicate, get_or}
+use Rattle.std.specs.Prelude.{ℕ, ◌≤◌, ◌<◌, ◌≡◌, List, [], ◌∷◌, length, replicate, get_or, Ok}
 use Rattle.event.specs.declared.Coord.{Coord}
 use Rattle.event.specs.declared.Event.TheVariants.{Release, Press}
 use Rattle.image.specs.Check.{check_of}
 use Rattle.image.specs.Words.{shape_of}
-use Rattle.image.specs.declared.rules.Checked.TheVariants.{Accepted}
 use Rattle.layout.specs.Model.{Acted, Begun, Decided, fresh}
 use Rattle.layout.specs.declared.notes.Way.TheVariants.{Tap}
 use Rattle.demands.specs.Runs.{Call, Enter, arrived}
@@ -22,7 +21,7 @@ seventeen = replicate 17 (Enter (Press 0 0))
 -- what demand 3 asks of an image and a buffer
 pub record Asked (image buffer : List ℕ) : Type 0 where
   pub bytes : (i : ℕ) → get_or image i 0 < 256
-  pub accepted : check_of image ≡ Accepted (shape_of image)
+  pub accepted : check_of image ≡ Ok (shape_of image)
   pub room : 64 ≤ length buffer
 
 -- Z with timeout 1: not at rest one tick before the bound, at rest at it
