@@ -36,7 +36,7 @@ impl Sizes {
 
     // The events of a step, in the buffer, and how many.
     #[tactic(auto, unfolding(crate::specs::Events::written))]
-    pub fn tell_step(self, step: Step, out: &mut [u8]) -> usize
+    pub(crate) fn tell_step(self, step: Step, out: &mut [u8]) -> usize
         requires { 3 * (self.rows * self.columns) ≤ length out.old }
         ensures { WrittenTo out.old (events_in step self.columns (self.rows * self.columns)) result out.new }
     {

@@ -47,14 +47,14 @@ impl Sizes {
     // Once the places past the switches are 0, all 128 tell of the switches. A fixed number of places takes fewer steps than so
     // many as there are switches.
     #[tactic(auto, using(crate::proofs::Laws::picture_then, crate::proofs::Laws::picture_else, crate::proofs::Laws::unused_past))]
-    pub fn is_picture(self, places: [u8; 128]) -> bool
+    pub(crate) fn is_picture(self, places: [u8; 128]) -> bool
         ensures { result ≡ is_picture (self.rows * self.columns) places }
     {
         are_at_most(&places[self.switches()..], 0) && are_at_most(&places, 1)
     }
 
     #[tactic(auto, unfolding(crate::specs::Picture::is_scan))]
-    pub fn is_scan(self, scan: &[u8]) -> bool
+    pub(crate) fn is_scan(self, scan: &[u8]) -> bool
         ensures is { result ≡ is_scan (self.rows * self.columns) scan.now }
         ensures few { result ≡ true → length scan.now ≤ 128 }
     {

@@ -31,7 +31,12 @@ impl Sizes {
 
     // The sizes, where they and nb_bounce are legal, and else the refusal.
     #[tactic(auto, unfolding(refusal::specs::Verdict::rule))]
-    pub fn of(rows: usize, columns: usize, nb_bounce: u16, refusal: Refusal) -> Result<Sizes, Fault>
+    pub(crate) fn of(
+        rows: usize,
+        columns: usize,
+        nb_bounce: u16,
+        refusal: Refusal,
+    ) -> Result<Sizes, Fault>
         ensures verdict { verdict_of result ≡ kept_or (bounce_good rows columns nb_bounce) refusal 0 }
         ensures sizes { IfOk result (λ s. (s.rows ≡ rows) × (s.columns ≡ columns)) }
         ensures count { IfOk result (λ s. nb_bounce < 65535) }
@@ -40,7 +45,7 @@ impl Sizes {
         Ok(Sizes { rows, columns })
     }
 
-    pub fn switches(self) -> usize
+    pub(crate) fn switches(self) -> usize
         ensures count { result ≡ self.rows * self.columns }
         ensures few { result ≤ 128 }
     {
@@ -49,7 +54,7 @@ impl Sizes {
 
     // The event of the switch at a place, which now is so.
     #[tactic(auto, unfolding(crate::specs::Events::event_at))]
-    pub fn event_at(self, place: usize, is: u8) -> Event
+    pub(crate) fn event_at(self, place: usize, is: u8) -> Event
         requires { place < 128 }
         ensures { result ≡ event_at self.columns place is }
     {
