@@ -1,7 +1,7 @@
 -- What the check's own functions promise to each other, and no public promise speaks of: what is known of the image where they
 -- are called, and what one pass over the children of a record finds for the rules 7 Child, 8 Nested and 9 Weight.
 -- Assumes nothing.
-use Rattle.std.specs.Prelude.{ℕ, ◌+◌, ◌*◌, ◌<◌, ◌≤◌, ◌≡◌, true, false, cond, ◌||◌, List, length, ltb}
+use Rattle.std.specs.Prelude.{ℕ, ◌+◌, ◌*◌, ◌<◌, ◌≤◌, ◌≡◌, true, ◌||◌, List, length, ltb}
 use Rattle.lists.specs.Lists.{every}
 use Rattle.image.specs.Words.{records_of, words_from}
 use Rattle.image.specs.Tree.{Actions, named, tree, open?, some_open, weight, weights}
@@ -10,7 +10,6 @@ use Rattle.image.specs.Sound.{Good}
 use Rattle.image.specs.declared.words.Shape.{Shape}
 use Rattle.image.specs.declared.children.Child.{Child}
 use Rattle.image.specs.declared.children.Weighed.{Weighed}
-use Rattle.image.specs.declared.children.Children.{Children}
 
 -- the counts of a header that keeps their rules
 pub record Counts (s : Shape) : Type 0 where
@@ -40,20 +39,9 @@ children_at img at count = named (tree img) (words_from img at count)
 abbrev pub weighed_of : Actions → Weighed
 weighed_of actions = record { weight = weights actions; opens = some_open actions }
 
--- the children of record n: whether all are lower, and if so whether one is open, and what they weigh
-unfoldable pub children_of : List ℕ → ℕ → List ℕ → Children
-children_of img n ks =
-    cond (every (λ k. ltb k n) ks)
-    (record { lower = true; opens = some_open (named (tree img) ks); weight = weights (named (tree img) ks) })
-    (record { lower = false; opens = false; weight = 0 })
-
 -- record n is what it is by itself, and its children: without any it weighs 1 and its word b, else 1 and what they weigh
 pub record Parts (img : List ℕ) (n : ℕ) (it : Child) : Type 0 where
   pub words : ChildWords img n it.at it.count
   pub alone : it.count ≡ 0 → 1 + it.b ≡ weight (tree img n)
   pub weighs : 0 < it.count → 1 + weights (children_at img it.at it.count) ≡ weight (tree img n)
   pub opens : (it.opens || some_open (children_at img it.at it.count)) ≡ open? (tree img n)
-
--- what is asked where the children of record n are, which so many words from a byte offset number
-abbrev pub ChildrenAsked : List ℕ → ℕ → ℕ → ℕ → Type 0
-ChildrenAsked img n at count = Formed img n × (at + 2 * count ≤ length img) × (count ≤ 1024)

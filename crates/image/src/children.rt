@@ -1,9 +1,10 @@
-// The children of a record, which are the records that it names: what they weigh, and which is open. Document 01, "The table
-// image".
+// The children of a record, which are the records that it names: whether they are lower, what they weigh, and which is open.
+// Document 01, "The table image".
 // Assumes nothing.
-ghost use Rattle.std.specs.Prelude.{◌≡◌};
+ghost use Rattle.std.specs.Prelude.{◌≡◌, ◌+◌, ◌*◌, ◌≤◌, length, ltb};
+ghost use Rattle.lists.specs.Lists.{every};
 ghost use Rattle.image.specs.Words.{words_from};
-ghost use Rattle.image.specs.Inside.{Formed, ChildWords, children_at, weighed_of, children_of, Parts, ChildrenAsked};
+ghost use Rattle.image.specs.Inside.{Formed, ChildWords, children_at, weighed_of, Parts};
 ghost use Rattle.image.specs.Sound.{Good};
 
 use super::body::Body;
@@ -26,21 +27,6 @@ pub(crate) struct Weighed {
     pub weight: usize,
     pub opens: bool,
 }
-
-// The children of a record: whether all are lower than it, and if so whether one is open, and what they weigh.
-#[derive(Drop)]
-pub(crate) struct Children {
-    pub lower: bool,
-    pub opens: bool,
-    pub weight: usize,
-}
-
-// One is not lower: nothing more is asked of them.
-const NOT_LOWER: Children = Children {
-    lower: false,
-    opens: false,
-    weight: 0,
-};
 
 impl Body<'_> {
     // Record n, which is good, each word that it takes read once. The children of a MultipleActions are its entries, and those
@@ -78,7 +64,7 @@ impl Body<'_> {
 
     // What the children of record n weigh, which so many words from a byte offset number, all lower, and whether one is open.
     // Each weighs 1, and more by its codes, or by recursion over its own children. A child that has none is no call.
-    fn weigh(&self, n: usize, at: usize, count: usize) -> Weighed
+    pub(crate) fn weigh(&self, n: usize, at: usize, count: usize) -> Weighed
         requires { Formed self.now.image.now n × ChildWords self.now.image.now n at count }
         ensures { result ≡ weighed_of (children_at self.now.image.now at count) }
     {
@@ -100,34 +86,17 @@ impl Body<'_> {
         Weighed { weight, opens }
     }
 
-    // The children of record n, which so many words from a byte offset number: the one pass over them, which asks of each whether
-    // it is lower, and weighs it as `weigh` does.
-    pub(crate) fn weigh_children(&self, n: usize, at: usize, count: usize) -> Children
-        requires { ChildrenAsked self.now.image.now n at count }
-        ensures { result ≡ children_of self.now.image.now n (words_from self.now.image.now at count) }
+    // Whether so many words from a byte offset number records lower than n.
+    pub(crate) fn are_lower(&self, n: usize, at: usize, count: usize) -> bool
+        requires { (at + 2 * count ≤ length self.now.image.now) × (count ≤ 1024) }
+        ensures { result ≡ every (λ k. ltb k n) (words_from self.now.image.now at count) }
     {
-        // 1 for each
-        let mut weight = count;
-        let mut opens = false;
         for i in 0..count {
             let k = word(self.image, at + 2 * i) as usize;
             if n <= k {
-                return NOT_LOWER;
+                return false;
             }
-            let it = self.child(k);
-            if it.count == 0 {
-                weight += it.b;
-                opens |= it.opens;
-                continue;
-            }
-            let under = self.weigh(k, it.at, it.count);
-            weight += under.weight;
-            opens |= it.opens | under.opens;
         }
-        Children {
-            lower: true,
-            opens,
-            weight,
-        }
+        true
     }
 }

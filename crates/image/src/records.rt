@@ -64,10 +64,9 @@ impl Body<'_> {
             return Ok(());
         }
         let at = self.shape.list_at + 2 * first;
-        let most = self.weigh_children(n, at, count - 1);
-        let last = self.weigh_children(n, at + 2 * (count - 1), 1);
-        rule(most.lower, Refusal::Child, n)?;
-        rule(last.lower, Refusal::Child, n)?;
+        rule(self.are_lower(n, at, count), Refusal::Child, n)?;
+        let most = self.weigh(n, at, count - 1);
+        let last = self.weigh(n, at + 2 * (count - 1), 1);
         rule(!most.opens, Refusal::Nested, n)?;
         rule(1 + (most.weight + last.weight) <= 64, Refusal::Weight, n)
     }
@@ -77,8 +76,9 @@ impl Body<'_> {
         requires { Formed self.now.image.now n × (field_of self.now.image.now n 0 ≡ 7) }
         ensures { result ≡ record_fault self.now.image.now n }
     {
-        let sum = self.weigh_children(n, self.shape.records_at + 8 * n + 4, 2);
-        rule(sum.lower, Refusal::Child, n)?;
+        let at = self.shape.records_at + 8 * n + 4;
+        rule(self.are_lower(n, at, 2), Refusal::Child, n)?;
+        let sum = self.weigh(n, at, 2);
         rule(!sum.opens, Refusal::Nested, n)?;
         rule(1 + sum.weight <= 64, Refusal::Weight, n)
     }
