@@ -1,13 +1,13 @@
 -- The report: document 01, "Report and keyboard". Byte 0 is the modifiers', byte 1 is kept, bytes 2 to 7 are the six.
 -- Assumes nothing.
-use Rattle.std.specs.Prelude.{ℕ, suc, cond, List, [], ◌∷◌, ◌++◌, map, eqb, leb, ltb, length, get_or, take, drop, set, replicate}
+use Rattle.std.specs.Prelude.{ℕ, cond, List, [], ◌∷◌, ◌++◌, map, eqb, leb, ltb, length, get_or, take, drop, set, replicate}
+use Rattle.std.specs.List.{position_or_len}
 use Rattle.std.specs.Int.Bits.{bit_or}
 use Rattle.codes.specs.Codes.{modifier, modifier_bit}
 
 -- the place of the first zero byte; where none is left, the list's length
 unfoldable pub free_place : List ℕ → ℕ
-free_place [] = 0
-free_place (k ∷ ks) = cond (eqb k 0) 0 (suc (free_place ks))
+free_place = position_or_len (λ k. eqb k 0)
 
 -- each of the bytes becomes the code
 unfoldable pub filled : ℕ → List ℕ → List ℕ

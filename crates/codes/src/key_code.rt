@@ -396,23 +396,23 @@ impl KeyCode {
     pub const MediaCalc: u8 = 0xFB;
 
     // Whether a word of a table image is a legal code.
+    #[tactic(auto, unfolding(crate::specs::Codes::legal))]
     pub fn is_legal(word: u16) -> bool
         ensures { result ≡ legal word }
     {
-        if word <= 0xA4 {
-            return true;
-        }
-        0xE0 <= word && word <= 0xFB
+        matches!(word, 0..=0xA4 | 0xE0..=0xFB)
     }
 
     // Whether the code has a bit of its own in the report's first byte.
+    #[tactic(auto, unfolding(crate::specs::Codes::modifier))]
     pub fn is_modifier(code: u8) -> bool
         ensures { result ≡ modifier code }
     {
-        KeyCode::LCtrl <= code && code <= KeyCode::RGui
+        matches!(code, KeyCode::LCtrl..=KeyCode::RGui)
     }
 
     // The modifier's bit in the report's first byte; 0 for a code that is no modifier.
+    #[tactic(auto, unfolding(crate::specs::Codes::modifier, crate::specs::Codes::modifier_bit))]
     pub fn as_modifier_bit(code: u8) -> u8
         ensures { result ≡ modifier_bit code }
     {

@@ -1,12 +1,12 @@
 -- Laws of the header and of the cells: what their rules say where they are kept.
 -- Assumes nothing.
-use mathlib.Core.Path.{◌≡◌, refl, sym}
+use mathlib.Core.Path.{◌≡◌}
 use mathlib.Core.Bool.{Bool, true}
 use mathlib.Core.List.{List}
 use Prim.Native.Nat.{ℕ, ◌+◌, ◌*◌, ◌^◌, ◌<◌, ◌≤◌}
 use native.Mathlib.Nat.{mul-le-mul, le_of_lt}
 use native.Mathlib.Omega.{arith}
-use borrow.Author.Tests.{leb-true, eqb-true, ltb-true, lt-ltb, le-ltb}
+use borrow.Author.Tests.{leb-true, eqb-true, ltb-true}
 use lib.ListN.{length}
 use lib.Dec.{eqb, leb}
 use Rattle.lists.proofs.Laws.{both_true}
@@ -14,9 +14,10 @@ use Rattle.refusal.specs.declared.Refusal.TheVariants as refusal
 use Rattle.image.specs.Words.{version_of, records_of, records_start, list_start, shape_of, size_of, cell_of}
 use Rattle.image.specs.Check.{within, counts_good, offsets_good, header_good, head_fault, cell_fault}
 use Rattle.image.specs.Sound.{Framed}
+use Rattle.image.specs.Inside.{Counts}
 use Rattle.image.specs.declared.words.Shape.{Shape}
-use Rattle.refusal.specs.Verdict.{fine, refused}
-use Rattle.refusal.proofs.Verdicts.{rule_no, rule_yes, rule_fine}
+use Rattle.refusal.specs.Verdict.{fine}
+use Rattle.refusal.proofs.Verdicts.{rule_fine}
 
 -- what the header's rules say
 in_range : (lo hi x : ℕ) → within lo hi x ≡ true → (lo ≤ x) × (x ≤ hi)
@@ -24,13 +25,6 @@ unfolding within
 in_range lo hi x e =
     let h = both_true (leb lo x) (leb x hi) e in
     (leb-true lo x h.0, leb-true x hi h.1)
-
-pub record Counts (s : Shape) : Type 0 where
-  pub layers : (1 ≤ s.layers) × (s.layers ≤ 8)
-  pub rows : (1 ≤ s.rows) × (s.rows ≤ 8)
-  pub columns : (1 ≤ s.columns) × (s.columns ≤ 16)
-  pub records : (1 ≤ s.records) × (s.records ≤ 256)
-  pub entries : s.entries ≤ 1024
 
 pub counts : (version : ℕ) (s : Shape) → counts_good version s ≡ true → Counts s
 unfolding counts_good
@@ -80,14 +74,6 @@ framed img e =
     }
 
 -- a cell's rule
-pub cell_bad : (img : List ℕ) (i : ℕ) → records_of img ≤ cell_of img i → cell_fault img i ≡ refused refusal.Cell i
-unfolding cell_fault
-cell_bad img i h = sym (rule_no _ refusal.Cell i fine (le-ltb (cell_of img i) (records_of img) h))
-
-pub cell_fine : (img : List ℕ) (i : ℕ) → cell_of img i < records_of img → cell_fault img i ≡ fine
-unfolding cell_fault
-cell_fine img i h = sym (rule_yes _ refusal.Cell i fine (lt-ltb (cell_of img i) (records_of img) h) refl)
-
 pub cell_kept : (img : List ℕ) (i : ℕ) → cell_fault img i ≡ fine → cell_of img i < records_of img
 unfolding cell_fault
 cell_kept img i e = ltb-true (cell_of img i) (records_of img) (rule_fine _ refusal.Cell i fine e).0

@@ -13,7 +13,7 @@ use Rattle.lists.specs.Lists.{every}
 use Rattle.lists.proofs.Laws.{both_true}
 use Rattle.codes.specs.Codes.{legal}
 use Rattle.refusal.specs.declared.Refusal.TheVariants as refusal
-use Rattle.image.specs.Inside.{Placed, Formed, children_of}
+use Rattle.image.specs.Inside.{Formed, children_of}
 use Rattle.image.specs.Words.{records_of, entries_of, field_of, entries, word_at, words_from}
 use Rattle.image.specs.Record.{action_of, action_at, codes_in, children_in, list_end}
 use Rattle.image.specs.Tree.{Action, end, ◌&◌, named, meaning, tree, open?, some_open, shut_but_last, opens_last, weight, weights}
@@ -27,7 +27,7 @@ use Rattle.refusal.proofs.Verdicts.{rule_no, rule_yes, rule_fine, rule_with}
 use Rattle.image.proofs.Tests.{and-true, and-false, or_false, not_or}
 use Rattle.image.proofs.Entries.{length_entries, length_words, words_last, all_two}
 use Rattle.image.proofs.Trees.{tree_step, action_inside, by_kind}
-use Rattle.image.proofs.Weights.{Lower, sum_high, sum_lower, sum_few, every_one, every_last, shut_last, weights_last, entries_at, pair_words}
+use Rattle.image.proofs.Weights.{Placed, Lower, sum_high, sum_lower, sum_few, every_one, every_last, shut_last, weights_last, entries_at, pair_words}
 
 -- the entries of a record whose form is good are in the list
 form_lists : (e k a b c : ℕ) → form e k a b c ≡ true → ((k ≡ 3) ⊎ (k ≡ 4)) → a + b ≤ e

@@ -10,8 +10,11 @@ use lib.ListN.{length}
 use lib.Dec.{eqb, leb, ltb}
 use Rattle.lists.specs.Lists.{every}
 use Rattle.lists.proofs.Laws.{every_head}
-use Rattle.image.specs.Inside.{Placed, Formed, children_at, weighed_of, children_of, Parts}
-use Rattle.image.specs.Words.{records_start, word_at, field_of, entries, words_from}
+use Rattle.image.specs.Inside.{Formed, children_at, weighed_of, children_of, Parts}
+use Rattle.image.specs.declared.body.Body.{Body}
+use Rattle.image.specs.declared.words.Shape.{Shape}
+use Rattle.image.specs.Sound.{Framed}
+use Rattle.image.specs.Words.{list_start, records_start, word_at, field_of, entries, words_from}
 use Rattle.image.specs.Record.{action_of, children_in, list_end}
 use Rattle.image.specs.Tree.{Action, Actions, named, meaning, tree, open?, some_open, shut_but_last, weight, weights}
 use Rattle.image.specs.Check.{form, form_good}
@@ -137,6 +140,17 @@ module _ (t : ℕ → Action) where
   weights_last (k ∷ ks) z = omega (arith, weights_last ks z)
 
 -- the entries of a MultipleActions as words one after the other
+
+-- the two offsets that a header tells
+pub record Placed (img : List ℕ) (records_at list_at : ℕ) : Type 0 where
+  pub framed : Framed img
+  pub first : records_at ≡ records_start img
+  pub second : list_at ≡ list_start img
+
+pub placed : (b : Body) → Placed b.image.now b.shape.records_at b.shape.list_at
+placed b =
+    record { framed = b.framed; first = ap (λ (s : Shape). s.records_at) b.told; second = ap (λ (s : Shape). s.list_at) b.told }
+
 pub entries_at : (img : List ℕ) (r l first count : ℕ) → Placed img r l → entries img first count ≡ words_from img (l + 2 * first) count
 entries_at img r l first count p = entries_words img first count ∙ ap (λ k. words_from img (k + 2 * first) count) (sym p.second)
 

@@ -52,10 +52,12 @@ pub fn source_of(operator: &[u8], built_in: &[u8]) -> Result<Source, Fault>
 pub fn in_use<'a>(operator: &'a [u8], built_in: &'a [u8]) -> &'a [u8]
     ensures { result.now ≡ in_use operator.now built_in.now }
 {
-    match source_of(operator, built_in) {
-        Ok(Source::Operator(n)) => &operator[..n],
-        Ok(Source::BuiltIn(n)) => &built_in[..n],
-        Err(_) => &operator[..0],
+    let Ok(source) = source_of(operator, built_in) else {
+        return &operator[..0];
+    };
+    match source {
+        Source::Operator(n) => &operator[..n],
+        Source::BuiltIn(n) => &built_in[..n],
     }
 }
 

@@ -2,12 +2,14 @@
 // Assumes nothing.
 ghost use Rattle.std.specs.Prelude.{◌≡◌, ◌≤◌, true, length};
 ghost use Rattle.image.specs.Words.{shape_of};
+ghost use Rattle.image.specs.Inside.{Counts};
 ghost use Rattle.image.specs.Check.{counts_good, offsets_good, header_good, head_fault};
 
 use super::words::{Shape, word};
 use refusal::{Fault, Refusal, rule};
 
 // The version and the five counts keep their rules.
+#[tactic(auto, unfolding(crate::specs::Check::counts_good, crate::specs::Check::within))]
 pub fn counts_good(version: usize, s: Shape) -> bool
     ensures { result ≡ counts_good version s }
 {
@@ -20,14 +22,16 @@ pub fn counts_good(version: usize, s: Shape) -> bool
 }
 
 // The two offsets keep their rules, where the counts do.
+#[tactic(auto, unfolding(crate::specs::Check::offsets_good), using(crate::proofs::HeaderRules::few_cells))]
 fn offsets_good(s: Shape) -> bool
-    requires { counts_good 1 s ≡ true }
+    requires { Counts s }
     ensures { result ≡ offsets_good s }
 {
     let records_at = 16 + 2 * (s.layers * s.rows * s.columns);
     s.records_at == records_at && s.list_at == records_at + 8 * s.records
 }
 
+#[tactic(auto, unfolding(crate::specs::Check::header_good), using(crate::proofs::HeaderRules::counts))]
 fn header_good(version: usize, s: Shape) -> bool
     ensures { result ≡ header_good version s }
 {
@@ -35,6 +39,7 @@ fn header_good(version: usize, s: Shape) -> bool
 }
 
 // Header, then Length.
+#[tactic(auto, unfolding(crate::specs::Check::head_fault, refusal::specs::Verdict::rule))]
 pub(crate) fn head_rules(image: &[u8], s: Shape, long: bool) -> Result<(), Fault>
     requires { (16 ≤ length image.now) × (s ≡ shape_of image.now) }
     ensures { result ≡ head_fault image.now long }

@@ -19,6 +19,7 @@ pub enum Action {
 }
 
 // The action of a kind with the words a, b, c.
+#[tactic(auto, unfolding(crate::specs::Record::action_of))]
 pub(crate) fn action_of(kind: u16, a: u16, b: u16, c: u16) -> Action
     ensures { result ≡ action_of kind a b c }
 {
@@ -36,6 +37,7 @@ pub(crate) fn action_of(kind: u16, a: u16, b: u16, c: u16) -> Action
 
 // The record that a cell names, or nothing outside the table. Nothing is asked of the image or of the place, so the place of
 // the cell in the image can pass 32 bits.
+#[tactic(auto, unfolding(crate::specs::Record::cell_at, crate::specs::Words::cell_of))]
 pub fn cell_at(image: &[u8], layer: usize, row: usize, column: usize) -> Option<u16>
     ensures { result ≡ cell_at image.now layer row column }
 {
@@ -50,6 +52,7 @@ pub fn cell_at(image: &[u8], layer: usize, row: usize, column: usize) -> Option<
 }
 
 // The action of record n. A record past the last is NoOp.
+#[tactic(auto, unfolding(crate::specs::Record::action_at, crate::specs::Words::field_of))]
 pub fn action_at(image: &[u8], n: usize) -> Action
     ensures { action_words result ≡ action_words (action_at image.now n) }
 {
@@ -65,6 +68,7 @@ pub fn action_at(image: &[u8], n: usize) -> Action
 }
 
 // An entry of the list, or nothing past its end.
+#[tactic(auto, unfolding(crate::specs::Record::entry_at, crate::specs::Words::entry_of))]
 pub fn entry_at(image: &[u8], e: usize) -> Option<u16>
     ensures { result ≡ entry_at image.now e }
 {

@@ -1,10 +1,5 @@
--- Which buffers have room for the descriptor. Assumes nothing.
-use borrow.Author.Tests.{lt-leb}
-use Prim.Native.Nat.{ℕ, ◌<◌}
-use mathlib.Core.Bool.{false}
-use mathlib.Core.List.{List}
+-- How long the descriptor is. Assumes nothing.
 use mathlib.Core.Path.{◌≡◌, refl}
-use lib.Dec.{leb}
 use lib.ListN.{length}
 use Rattle.keyboard.specs.Descriptor.{descriptor}
 
@@ -12,7 +7,3 @@ use Rattle.keyboard.specs.Descriptor.{descriptor}
 pub long : length descriptor ≡ 71
 unfolding descriptor
 long = refl
-
--- a shorter buffer has no room for it
-pub short : (buffer : List ℕ) → length buffer < 71 → leb (length descriptor) (length buffer) ≡ false
-short buffer less = rw long (lt-leb 71 (length buffer) less)

@@ -15,6 +15,7 @@ const REPORT_DESCRIPTOR: [u8; 71] = [
 
 impl Keyboard {
     // What the device says of itself: 71 bytes.
+    #[tactic(auto, unfolding(crate::specs::Descriptor::descriptor))]
     pub fn report_descriptor() -> [u8; 71]
         ensures { result ≡ descriptor }
     {

@@ -13,10 +13,10 @@ pub mod linked;
 pub mod through;
 
 ghost use Rattle.std.specs.Prelude.{◌≡◌};
-ghost use Rattle.lists.specs.Lists.{alike};
-ghost use Rattle.keyboard.specs.Keyboard.{fresh, reported, fetched, lit};
+ghost use Rattle.keyboard.specs.Keyboard.{fresh, reported, fetched, lit, with_leds};
 
 use codes::KbHidReport;
+use refusal::Refusal;
 
 // Every value of it is legal.
 #[repr(C)]
@@ -33,6 +33,8 @@ pub struct Keyboard {
     pub count: u16,
 }
 
+// An answer, and the keyboard after it. There are four of these, and not one over a type, since `due` and `changed` say more
+// than `answer`.
 #[repr(C)]
 #[derive(Clone, Copy)]
 pub struct Changed {
@@ -40,7 +42,7 @@ pub struct Changed {
     pub keyboard: Keyboard,
 }
 
-// A refusal's number or 0, and the report; a refused one is zero.
+// A refusal's number or 0, and the report; a refused one is zero. C links this, so a number and not a `Result`.
 #[repr(C)]
 #[derive(Clone, Copy)]
 pub struct Got {
@@ -55,7 +57,7 @@ pub struct Fetched {
     pub keyboard: Keyboard,
 }
 
-// A refusal's number or 0.
+// A refusal's number or 0: C is answered this number, and a call by value answers alike.
 #[repr(C)]
 #[derive(Clone, Copy)]
 pub struct Answered {
@@ -70,18 +72,10 @@ pub struct Clocked {
     pub keyboard: Keyboard,
 }
 
-fn are_alike(a: [u8; 8], b: [u8; 8]) -> bool
-    ensures { result ≡ alike a b }
-{
-    let mut i = 0;
-    while i < 8 {
-        if a[i] != b[i] {
-            return false;
-        }
-        i += 1;
-    }
-    true
-}
+// Report types of a request, as HID 1.11 numbers them.
+const INPUT: u8 = 1;
+
+const OUTPUT: u8 = 2;
 
 impl Keyboard {
     pub fn new() -> Keyboard
@@ -100,79 +94,76 @@ impl Keyboard {
     }
 
     // The report to send from now on; whether it differs from the last.
+    #[tactic(auto, unfolding(crate::specs::Keyboard::reported))]
     pub fn set_keyboard_report(self, report: KbHidReport) -> Changed
         ensures { result ≡ reported self report }
     {
-        let last = self.report;
-        let a = last.bytes;
-        let b = report.bytes;
-        if are_alike(a, b) {
+        if report == self.report {
             return Changed {
                 changed: false,
                 keyboard: self,
             };
         }
-        let mut k = self;
-        k.report = report;
-        k.count = 0;
         Changed {
             changed: true,
-            keyboard: k,
+            keyboard: Keyboard {
+                report,
+                count: 0,
+                ..self
+            },
         }
     }
 
     // Get_Report: Input has the last report, under any id.
+    #[tactic(auto, unfolding(crate::specs::Keyboard::fetched))]
     pub fn get_report(self, kind: u8, id: u8) -> Fetched
         ensures { result ≡ fetched self kind id }
     {
-        let report = self.report;
-        if kind == 1 {
-            return Fetched {
-                got: Got { number: 0, report },
-                keyboard: self,
-            };
-        }
-        Fetched {
-            got: Got {
-                number: 14,
-                report: KbHidReport { bytes: [0; 8] },
+        let got = match kind {
+            INPUT => Got {
+                number: 0,
+                report: self.report,
             },
+            _ => Got {
+                number: Refusal::Request.number(),
+                report: KbHidReport::default(),
+            },
+        };
+        Fetched {
+            got,
             keyboard: self,
         }
     }
 
     // Set_Report: Output, id 0 and one byte set the lights.
+    #[tactic(auto, unfolding(crate::specs::Keyboard::lit))]
     pub fn set_report(self, kind: u8, id: u8, bytes: &[u8]) -> Answered
         ensures { result ≡ lit self kind id bytes.now }
     {
-        if kind != 2 {
-            return Answered {
-                number: 14,
+        match (kind, id, bytes) {
+            (OUTPUT, 0, [leds]) => Answered {
+                number: 0,
+                keyboard: self.with_leds(*leds),
+            },
+            _ => Answered {
+                number: Refusal::Request.number(),
                 keyboard: self,
-            };
+            },
         }
-        if id != 0 {
-            return Answered {
-                number: 14,
-                keyboard: self,
-            };
-        }
-        if bytes.len() != 1 {
-            return Answered {
-                number: 14,
-                keyboard: self,
-            };
-        }
-        let d = bytes[0];
-        let mut k = self;
-        k.num = d % 2 == 1;
-        k.caps = d / 2 % 2 == 1;
-        k.scroll = d / 4 % 2 == 1;
-        k.compose = d / 8 % 2 == 1;
-        k.kana = d / 16 % 2 == 1;
-        Answered {
-            number: 0,
-            keyboard: k,
+    }
+
+    // LED bits 0 to 4.
+    #[tactic(auto, unfolding(codes::specs::Hid111::bit))]
+    fn with_leds(self, leds: u8) -> Keyboard
+        ensures { result ≡ with_leds self leds }
+    {
+        Keyboard {
+            num: leds % 2 == 1,
+            caps: leds / 2 % 2 == 1,
+            scroll: leds / 4 % 2 == 1,
+            compose: leds / 8 % 2 == 1,
+            kana: leds / 16 % 2 == 1,
+            ..self
         }
     }
 }

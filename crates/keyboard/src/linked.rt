@@ -7,6 +7,7 @@ ghost use Rattle.keyboard.specs.Descriptor.{subclass_number, protocol_number};
 ghost use Rattle.keyboard.specs.Lent.{LentDescribed};
 
 use super::Keyboard;
+use refusal::Refusal;
 
 pub fn keyboard_new() -> Keyboard
     ensures { result ≡ fresh }
@@ -15,19 +16,15 @@ pub fn keyboard_new() -> Keyboard
 }
 
 // The descriptor's 71 bytes at the buffer's start, and 0; or 12, and nothing written, where they do not fit.
-#[tactic(auto, using(crate::proofs::Room::short))]
+#[tactic(auto, using(crate::proofs::Room::long))]
 pub fn keyboard_report_descriptor(out: &mut [u8]) -> u8
     ensures { LentDescribed out.old result out.new }
 {
-    if out.len() < 71 {
-        return 12;
+    let descriptor = Keyboard::report_descriptor();
+    if out.len() < descriptor.len() {
+        return Refusal::Room.number();
     }
-    let bytes = Keyboard::report_descriptor();
-    let mut i = 0;
-    while i < 71 {
-        out[i] = bytes[i];
-        i += 1;
-    }
+    out[..descriptor.len()].copy_from_slice(&descriptor);
     0
 }
 

@@ -1,5 +1,6 @@
 // The lent calls, called with a record that is at hand: the record is put into a local, the local is lent to the call, and
 // the record that the call left there is returned. Each answers as the call by value does, by way of the lent one.
+// Each is written out, since each takes other arguments and answers a record of its own.
 // Document 01, "Report and keyboard".
 // Assumes nothing.
 ghost use Rattle.std.specs.Prelude.{◌≡◌};

@@ -1,4 +1,2 @@
 pub mod Cases
-pub mod Laws
-pub mod Says
 pub mod Unique

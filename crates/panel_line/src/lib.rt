@@ -3,106 +3,48 @@
 // Assumes nothing.
 #![tactic(auto)]
 
-ghost use Rattle.std.specs.Prelude.{◌≡◌, ◌≤◌, length, get_or};
-ghost use Rattle.panel_line.specs.Line.{space_at, coords_of, press_at, release_at, line_of, says_of};
+ghost use Rattle.std.specs.Prelude.{◌≡◌, ◌==◌, position};
+ghost use Rattle.panel_line.specs.Line.{coords_of, line_of};
 
-use event::Event;
-use number::{Number, decimal_within};
+use event::{Coord, Event};
+use number::decimal_within;
 
 #[derive(Clone, Copy)]
 pub enum Line {
     Key(Event),
     Tick,
-    Unread,
 }
 
-// A row and a column, or neither.
-#[derive(Drop)]
-enum Coords {
-    At(u8, u8),
-    Nowhere,
-}
-
-// The byte at a place, and 0 past the end.
-fn byte(bytes: &[u8], at: usize) -> u8
-    ensures { result ≡ get_or bytes.now at 0 }
+// The place of the first space, if there is one.
+fn space(bytes: &[u8]) -> Option<usize>
+    ensures { result ≡ position (λ c. c == 32) bytes.now }
 {
-    if at < bytes.len() { bytes[at] } else { 0 }
+    bytes.iter().position(|c| *c == b' ')
 }
 
-// The place of the first space, or the length where there is none.
-fn space(bytes: &[u8]) -> usize
-    ensures { (result ≡ space_at bytes.now) × (result ≤ length bytes.now) }
-{
-    let mut i = 0;
-    while i < bytes.len() {
-        if bytes[i] == b' ' {
-            return i;
-        }
-        i += 1;
-    }
-    i
-}
-
-// Two numbers with one space between them. Where there is no space the second is missing.
-fn coords_in(bytes: &[u8]) -> Coords
+// A row and a column: two numbers with one space between them. Where there is no space the second is missing.
+#[tactic(auto, unfolding(crate::specs::Line::coords_of), using(number::proofs::Read::within_fits))]
+fn coords_in(bytes: &[u8]) -> Option<Coord>
     ensures { result ≡ coords_of bytes.now }
 {
-    let n = space(bytes);
-    if n == bytes.len() {
-        return Coords::Nowhere;
-    }
-    let Number::Value(i) = decimal_within(&bytes[..n], 3, 255) else {
-        return Coords::Nowhere;
-    };
-    let Number::Value(j) = decimal_within(&bytes[n + 1..], 3, 255) else {
-        return Coords::Nowhere;
-    };
-    Coords::At(i as u8, j as u8)
-}
-
-fn press_at(at: Coords) -> Line
-    ensures { result ≡ press_at at }
-{
-    match at {
-        Coords::At(i, j) => Line::Key(Event::Press(i, j)),
-        Coords::Nowhere => Line::Unread,
-    }
-}
-
-fn release_at(at: Coords) -> Line
-    ensures { result ≡ release_at at }
-{
-    match at {
-        Coords::At(i, j) => Line::Key(Event::Release(i, j)),
-        Coords::Nowhere => Line::Unread,
-    }
+    let n = space(bytes)?;
+    let i = decimal_within(&bytes[..n], 3, 255)?;
+    let j = decimal_within(&bytes[n + 1..], 3, 255)?;
+    Some(Coord {
+        i: i as u8,
+        j: j as u8,
+    })
 }
 
 // What a line says, without its newline.
-#[tactic(auto, using(crate::proofs::Laws::line_parted))]
-pub fn read_line(line: &[u8]) -> Line
-    ensures { says_of result ≡ says_of (line_of line.now) }
+#[tactic(auto, unfolding(crate::specs::Line::line_of, crate::specs::Line::starts_with))]
+pub fn read_line(line: &[u8]) -> Option<Line>
+    ensures { result ≡ line_of line.now }
 {
-    let letter = byte(line, 0);
-    let second = byte(line, 1);
-    if line.len() == 1 {
-        if letter == b't' {
-            return Line::Tick;
-        }
-        return Line::Unread;
+    match line {
+        [b't'] => Some(Line::Tick),
+        [b'p', b' ', at @ ..] => coords_in(at).map(|c| Line::Key(Event::Press(c.i, c.j))),
+        [b'r', b' ', at @ ..] => coords_in(at).map(|c| Line::Key(Event::Release(c.i, c.j))),
+        _ => None,
     }
-    if second != b' ' {
-        return Line::Unread;
-    }
-    if line.len() < 2 {
-        return Line::Unread;
-    }
-    if letter == b'p' {
-        return press_at(coords_in(&line[2..]));
-    }
-    if letter == b'r' {
-        return release_at(coords_in(&line[2..]));
-    }
-    Line::Unread
 }

@@ -1,11 +1,11 @@
 -- Laws of rules in their order: a rule, the first refusal of two, and of many places. Assumes nothing.
-use mathlib.Core.Path.{◌≡◌, refl}
+use mathlib.Core.Path.{◌≡◌, refl, sym}
 use mathlib.Core.Bool.{Bool, true, false}
 use Prim.Native.Nat.{ℕ, zero, suc, ◌+◌, ◌-◌, ◌<◌, ◌≤◌}
 use native.Mathlib.Nat.{le_of_suc-le-suc, not-suc-le-zero}
 use native.Mathlib.Omega.{arith}
-use Rattle.std.specs.Prelude.{Ok, Err}
-use Rattle.refusal.specs.Verdict.{Verdict, fine, refused, rule, or_else, first_fault}
+use Rattle.std.specs.Prelude.{Ok, Err, ⊤}
+use Rattle.refusal.specs.Verdict.{Verdict, fine, refused, rule, kept_or, or_else, first_fault}
 use Rattle.refusal.specs.declared.Refusal.{Refusal}
 use Rattle.refusal.specs.declared.Fault.{Fault}
 
@@ -19,6 +19,27 @@ module _ (t : Bool) (r : Refusal) (p : ℕ) (rest : Verdict) where
   unfolding rule
   rule_yes e f = rw e f
 
+-- a rule asked alone, with `?` behind it: what it refuses is refused; where it is kept the rest decides
+pub rule_stop : (t : Bool) (r : Refusal) (p : ℕ) (rest : Verdict) {a : Fault} → kept_or t r p ≡ Err a → Err a ≡ rule t r p rest
+unfolding rule
+rule_stop true r p rest e = cc
+rule_stop false r p rest e = sym e
+
+pub rule_on : (t : Bool) (r : Refusal) (p : ℕ) (rest : Verdict) {x : Verdict} → kept_or t r p ≡ fine → x ≡ rest → x ≡ rule t r p rest
+unfolding rule
+rule_on true r p rest e f = f
+rule_on false r p rest e f = cc
+
+pub rule_broken : (t : Bool) (r : Refusal) (p : ℕ) {a : Fault} → kept_or t r p ≡ Err a → (t ≡ false) × (Err a ≡ refused {A = ⊤} r p)
+unfolding rule
+rule_broken true r p e = (cc, cc)
+rule_broken false r p e = (refl, sym e)
+
+pub rule_kept : (t : Bool) (r : Refusal) (p : ℕ) → kept_or t r p ≡ fine → t ≡ true
+unfolding rule
+rule_kept true r p e = refl
+rule_kept false r p e = cc
+
 pub rule_fine : (t : Bool) (r : Refusal) (p : ℕ) (rest : Verdict) → rule t r p rest ≡ fine → (t ≡ true) × (rest ≡ fine)
 unfolding rule
 rule_fine true r p rest e = (refl, e)
@@ -31,9 +52,9 @@ rule_with true r p x y f = f refl
 rule_with false r p x y f = refl
 
 -- the first fault of two
-pub or_stop : (f g : Verdict) (r : Refusal) (p : ℕ) → f ≡ refused r p → f ≡ or_else f g
+pub or_stop : (f g : Verdict) (a : Fault) → f ≡ Err a → f ≡ or_else f g
 unfolding or_else
-or_stop f g r p e = rw e
+or_stop f g a e = rw e
 
 pub or_on : (f g : Verdict) → f ≡ fine → or_else f g ≡ g
 unfolding or_else
@@ -52,9 +73,9 @@ module _ (f : ℕ → Verdict) (i n : ℕ) where
       let k : n - i ≡ suc (n - (i + 1)) = omega arith in
       rw (k, e)
 
-  pub fault_here : (r : Refusal) (p : ℕ) → i < n → f i ≡ refused r p → first_fault f i (n - i) ≡ refused r p
+  pub fault_here : (a : Fault) → i < n → f i ≡ Err a → first_fault f i (n - i) ≡ Err a
   unfolding first_fault or_else
-  fault_here r p h e =
+  fault_here a h e =
       let k : n - i ≡ suc (n - (i + 1)) = omega arith in
       rw (k, e)
 

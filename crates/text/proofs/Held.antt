@@ -4,11 +4,16 @@ use mathlib.Core.List.{List, [], ◌∷◌, ◌++◌, append-nil}
 use mathlib.Core.Path.{◌≡◌, sym, ap, ◌∙◌}
 use native.Mathlib.Numerals.{add-one}
 use native.Mathlib.Omega.{arith}
-use lib.ListN.{length, length-set}
+use borrow.Author.Tests.{lt-ltb}
+use lib.ListN.{length, set, length-set}
 use lib.Seq.{append_snoc, take-suc-set}
 use Rattle.text.specs.declared.text.Text.{Text}
 use Rattle.text.specs.Text.{put, put_all, contents}
-use Rattle.text.proofs.Laws.{put_room}
+
+-- a text with room
+put_room : (t : Text) (b : ℕ) → t.len < 1024 → put t b ≡ record { len = t.len + 1; bytes = set t.bytes t.len b }
+unfolding put
+put_room t b h = rw (lt-ltb t.len 1024 h)
 
 contents_one : (t : Text) (b : ℕ) → length t.bytes ≡ 1024 → t.len < 1024 → contents (put t b) ≡ contents t ++ (b ∷ [])
 unfolding contents

@@ -1,13 +1,13 @@
 -- Lines out of what was read. 10 is the newline.
 -- Assumes nothing.
-use Rattle.std.specs.Prelude.{ℕ, suc, ◌+◌, ◌-◌, Bool, cond, false, ◌&&◌, List, [], ◌∷◌, ◌≡◌, eqb, leb, ltb, length, take, drop}
+use Rattle.std.specs.Prelude.{ℕ, ◌+◌, ◌-◌, Bool, cond, false, ◌&&◌, List, [], ◌≡◌, eqb, ◌==◌, leb, ltb, length, take, drop}
+use Rattle.std.specs.List.{position_or_len}
 use Rattle.std.proofs.Math.Seq.{paste}
 use Rattle.text.specs.declared.input.Reading.{Reading}
 
 -- the place of the first newline; where there is none, the list's length
 unfoldable pub line_length : List ℕ → ℕ
-line_length [] = 0
-line_length (c ∷ cs) = cond (eqb c 10) 0 (suc (line_length cs))
+line_length = position_or_len (λ c. c == 10)
 
 -- the first n bytes; none where there are fewer
 unfoldable pub front_of : List ℕ → ℕ → List ℕ

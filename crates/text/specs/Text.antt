@@ -1,6 +1,6 @@
 -- An answer's text: its bytes, those of hex and of decimal. Bytes are ASCII: 48 is the digit 0, 97 is a.
 -- Assumes nothing.
-use Rattle.std.specs.Prelude.{ℕ, ◌+◌, ◌/◌, ◌%◌, cond, ◌&&◌, List, [], ◌∷◌, ◌++◌, ltb, leb, set, take, replicate}
+use Rattle.std.specs.Prelude.{ℕ, ◌+◌, ◌/◌, ◌%◌, cond, ◌&&◌, List, [], ◌∷◌, ◌++◌, ltb, leb, set, take, replicate, fold}
 use Rattle.text.specs.declared.text.Text.{Text}
 
 -- one byte more; a full text stays as it is
@@ -9,8 +9,7 @@ put t b = cond (ltb t.len 1024) (record { len = t.len + 1; bytes = set t.bytes t
 
 -- each of the bytes, one after the other
 unfoldable pub put_all : Text → List ℕ → Text
-put_all t [] = t
-put_all t (b ∷ bs) = put_all (put t b) bs
+put_all t bs = fold put t bs
 
 -- a text of these bytes and no other
 unfoldable pub saying : List ℕ → Text

@@ -6,6 +6,7 @@ ghost use Rattle.text.specs.Reply.{unread_line, refused_line};
 use super::text::Text;
 
 // To a line that cannot be read.
+#[tactic(auto, unfolding(crate::specs::Text::saying, crate::specs::Text::put_all, crate::specs::Reply::unread_line))]
 pub fn unread() -> Text
     ensures { result ≡ saying unread_line }
 {
@@ -13,6 +14,7 @@ pub fn unread() -> Text
 }
 
 // Where something is refused: the refusal's number and place.
+#[tactic(auto, unfolding(crate::specs::Text::saying), using(crate::proofs::Laws::refused_is))]
 pub fn refused(number: u8, place: usize) -> Text
     ensures { result ≡ saying (refused_line number place) }
 {

@@ -1,13 +1,8 @@
--- `text::Text::put_hex` meets its contract. The loop's invariant: the text, with the digits of the bytes that are left, is the
--- whole answer. Assumes nothing.
-use Prim.Native.Nat.{◌-◌, ◌≤◌}
+-- `text::Text::put_hex` meets its contract. The loop's invariant: the text has the digits of the bytes so far. Assumes nothing.
 use mathlib.Core.Path.{◌≡◌}
-use lib.ListN.{length, drop}
+use lib.ListN.{take}
 use Rattle.text.specs.Text.{put_all, hex_of}
 use Rattle.text.proofs.text.Text.put_hex.Given as goal
 
-abbrev pub invariant-loop-i : goal.invariant-loop-i
-invariant-loop-i l = (l.i ≤ length l.bytes) × (put_all l.out (hex_of (drop l.i l.bytes)) ≡ put_all l.initial.out (hex_of l.bytes))
-
-abbrev pub decreases-loop-i : goal.decreases-loop-i
-decreases-loop-i l = length l.bytes - l.i
+abbrev pub invariant-loop-byte : goal.invariant-loop-byte
+invariant-loop-byte l = l.out ≡ put_all l.initial.out (hex_of (take l.byte-index l.bytes))
