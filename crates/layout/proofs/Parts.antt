@@ -3,10 +3,10 @@
 --     new-states, new-waiting     the active part with one part put in, and the move that it is
 use mathlib.Core.Path.{◌≡◌, refl, sym, ap, ◌∙◌}
 use mathlib.Core.List.{List, [], ◌∷◌, ◌++◌, map}
-use Prim.Native.Nat.{ℕ, ◌+◌, ◌≤◌, ◌<◌}
+use Prim.Native.Nat.{ℕ, suc, ◌+◌, ◌-◌, ◌≤◌, ◌<◌}
 use native.Mathlib.Omega.{arith}
-use lib.ListN.{length, take, drop, set, length-take, length-map}
-use lib.Seq.{length-take-le}
+use lib.ListN.{length, take, drop, set, get_or, replicate, length-take, length-drop, length-map}
+use lib.Seq.{length-take-le, append_snoc, set_at}
 use Rattle.event.specs.declared.Event.{Event}
 use Rattle.layout.specs.Model.{Queued, Model, with_states}
 use Rattle.layout.specs.Steps.{appended, older_one, older}
@@ -16,7 +16,7 @@ use Rattle.layout.specs.declared.active.State.{State}
 use Rattle.layout.specs.declared.active.Active.{Active}
 use Rattle.layout.specs.declared.queue.Stacked.{Stacked}
 use Rattle.layout.specs.declared.queue.Queue.{Queue}
-use Rattle.layout.proofs.Pads.{held_more, take_pad, length_pad, map-append}
+use Rattle.layout.proofs.Pads.{held_more, take_pad, length_pad, clean_rest, map-append}
 
 pub tidy_length : (active : Active) → Tidy active → length active.states ≡ 64
 tidy_length active t = rw (← t.clean) (length_pad 64 no_state (take active.len active.states) (simp length-take (omega (arith, t.few))))
@@ -74,3 +74,38 @@ append_room queue e t h =
     let m = held_more 16 no_stacked l new queue.stacked queue.queued h (sym long) (sym t.clean) in
     let n = new_queue (l ++ (new ∷ [])) (set queue.stacked queue.queued new) (queue.queued + 1) (omega (arith, m.0)) m.0 m.1 in
     (n.0, n.1 ∙ map-append queued_of l (new ∷ []))
+
+-- every event one tick older: the new events are put in front of the unused places
+pub aged : (queue : Queue) (new : List Stacked) → Lined queue → new ≡ map older_in (take queue.queued queue.stacked)
+    → let grown : Queue = record { stacked = new ++ drop queue.queued queue.stacked; queued = queue.queued } in
+    Lined grown × (list_in grown ≡ older (list_in queue))
+aged queue new t e =
+    let n = queue.queued in
+    let used = take n queue.stacked in
+    let full = lined_length queue t in
+    let count : length (map older_in used) ≡ n = rw length-map (length-take-le n queue.stacked (omega (arith, t.few))) in
+    let rest = clean_rest 16 n no_stacked queue.stacked (omega (arith, t.few)) t.clean in
+    let q = new_queue (map older_in used) (new ++ drop n queue.stacked) n (omega (arith, t.few)) (sym count) (rw (e, rest, count)) in
+    (q.0, q.1 ∙ older_list used)
+
+take_first : {A : Type 0} (l : List A) (d : A) → 0 < length l → take 1 l ≡ get_or l 0 d ∷ []
+take_first [] d h = absurd (omega arith)
+take_first (x ∷ l) d h = refl
+
+-- the oldest event turned behind the others, and its place then unused
+pub shifted : (queue : Queue) (new : List Stacked) → Lined queue → 0 < queue.queued → new ≡ drop 1 (take queue.queued queue.stacked) ++ take 1 (take queue.queued queue.stacked)
+    → let rest : Queue = record { stacked = set (new ++ drop queue.queued queue.stacked) (queue.queued - 1) no_stacked; queued = queue.queued - 1 } in
+    Lined rest × (list_in rest ≡ drop 1 (list_in queue))
+shifted queue new t some e =
+    let n = queue.queued in
+    let used = take n queue.stacked in
+    let l = drop 1 used in
+    let first = get_or used 0 no_stacked in
+    let full = lined_length queue t in
+    let long : length used ≡ n = length-take-le n queue.stacked (omega (arith, t.few)) in
+    let count : length l ≡ n - 1 = length-drop 1 used ∙ ap (λ (k : ℕ). k - 1) long in
+    let rest = clean_rest 16 n no_stacked queue.stacked (omega (arith, t.few)) t.clean in
+    let one : 16 - (n - 1) ≡ suc (16 - n) = omega (arith, t.few) in
+    let q = new_queue l (set (new ++ drop n queue.stacked) (n - 1) no_stacked) (n - 1) (omega (arith, t.few)) (sym count)
+    (rw (e, take_first used no_stacked (omega arith), rest, append_snoc, count, one) (set_at l first (replicate (16 - n) no_stacked) no_stacked (n - 1) count)) in
+    (q.0, q.1 ∙ rest_list used)

@@ -25,32 +25,13 @@ use Rattle.layout.specs.declared.queue.Stacked.{Stacked}
 use Rattle.layout.specs.declared.layout.Layout.{Layout}
 use Rattle.layout.proofs.Pads.{drop_one, padded}
 
--- among the first n, from a place on
-module _ {A : Type 0} (p : A → Bool) (l : List A) (n i : ℕ) (d : A) (h : i < n) (long : n ≤ length l) where
-  pub every_next : p (get_or l i d) ≡ true → every p (drop i (take n l)) ≡ every p (drop (i + 1) (take n l))
-  every_next e = rw (drop_one l n i d h long, e)
-
-  pub every_stop : p (get_or l i d) ≡ false → every p (drop i (take n l)) ≡ false
-  every_stop e = rw (drop_one l n i d h long, e)
-
--- the ages of two that follow each other
-module _ (l : List Stacked) (n i : ℕ) (d : Stacked) (h : i + 1 < n) (long : n ≤ length l) where
-  abbrev from : ℕ → List Queued
-  from k = map queued_of (drop k (take n l))
-
-  next_on : from (i + 1) ≡ queued_of (get_or l (i + 1) d) ∷ from (i + 1 + 1)
-  next_on = ap (map queued_of) (drop_one l n (i + 1) d h long)
-
-  two_on : from i ≡ queued_of (get_or l i d) ∷ (queued_of (get_or l (i + 1) d) ∷ from (i + 1 + 1))
-  two_on = ap (map queued_of) (drop_one l n i d (omega arith) long) ∙ ap (λ (x : List Queued). queued_of (get_or l i d) ∷ x) next_on
-
-  pub falling_next : (get_or l (i + 1) d).since ≤ (get_or l i d).since → falling (from i) ≡ falling (from (i + 1))
-  unfolding falling
-  falling_next e = ap falling two_on ∙ rw (le-leb _ _ e) (sym (ap falling next_on))
-
-  pub falling_stop : (get_or l i d).since < (get_or l (i + 1) d).since → falling (from i) ≡ false
-  unfolding falling
-  falling_stop e = ap falling two_on ∙ rw (lt-leb _ _ e)
+-- the ages of two that follow each other, where the others stand behind them
+pub falling_pair : (l pair : List Stacked) (d : Stacked) → 2 ≤ length l → pair ≡ take 2 l
+    → falling (map queued_of l) ≡ leb (get_or pair 1 d).since (get_or pair 0 d).since && falling (map queued_of (drop 1 l))
+unfolding falling
+falling_pair [] pair d h e = absurd (omega arith)
+falling_pair (a ∷ []) pair d h e = absurd (omega arith)
+falling_pair (a ∷ (b ∷ l)) pair d h e = rw e
 
 pub falling_short : (l : List Queued) → length l ≤ 1 → falling l ≡ true
 unfolding falling

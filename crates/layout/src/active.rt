@@ -66,7 +66,7 @@ pub(crate) fn release(active: Active, coord: Coord) -> Active
     let mut states = [State::UNUSED; Layout::STATES];
     let mut len = 0;
     for state in &active.states[..active.len] {
-        if state.coord() != coord {
+        if coord != state.coord() {
             states[len] = *state;
             len += 1;
         }

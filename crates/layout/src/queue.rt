@@ -30,27 +30,27 @@ impl Stacked {
 }
 
 // Every queued age grows by 1, stopping at 65,535.
-pub(crate) fn age(mut queue: Queue) -> Queue
+pub(crate) fn age(queue: Queue) -> Queue
     requires { Lined queue }
     ensures { Lined result × (list_in result ≡ older (list_in queue)) }
 {
-    let n = queue.queued;
-    for stacked in &mut queue.stacked[..n] {
-        stacked.since = stacked.since.saturating_add(1);
+    let mut stacked = queue.stacked;
+    for waits in &mut stacked[..queue.queued] {
+        waits.since = waits.since.saturating_add(1);
     }
-    queue
+    Queue { stacked, ..queue }
 }
 
 // The oldest leaves: the others move up, and the last place is unused.
-pub(crate) fn shift(mut queue: Queue) -> Queue
+pub(crate) fn shift(queue: Queue) -> Queue
     requires { Lined queue × (0 < queue.queued) }
     ensures { Lined result × (list_in result ≡ drop 1 (list_in queue)) }
 {
-    let n = queue.queued;
-    queue.stacked[..n].rotate_left(1);
-    queue.queued -= 1;
-    queue.stacked[queue.queued] = Stacked::UNUSED;
-    queue
+    let queued = queue.queued - 1;
+    let mut stacked = queue.stacked;
+    stacked[..queue.queued].rotate_left(1);
+    stacked[queued] = Stacked::UNUSED;
+    Queue { stacked, queued }
 }
 
 // A new event has age 0.

@@ -1,15 +1,15 @@
 // The State check of a layout: document 01, "Refusal numbers", 13.
 // Assumes nothing.
-ghost use Rattle.std.specs.Prelude.{◌≡◌, ◌≤◌, take, drop};
+ghost use Rattle.std.specs.Prelude.{◌≡◌, map};
 ghost use Rattle.lists.specs.Lists.{every};
 ghost use Rattle.image.specs.Words.{layers_of};
 ghost use Rattle.image.specs.Sound.{Sound};
-ghost use Rattle.layout.specs.Packed.{list_in};
+ghost use Rattle.layout.specs.Packed.{queued_of};
 ghost use Rattle.layout.specs.State.{legal_state, falling, waiting_good, unused_state, unused_stacked, state_good};
 
-use super::active::{Active, State, WaitingState};
+use super::active::{State, WaitingState};
 use super::layout::Layout;
-use super::queue::{Queue, Stacked};
+use super::queue::Stacked;
 use codes::KeyCode;
 use image::{Action, action_at};
 
@@ -34,30 +34,23 @@ fn is_unused_event(stacked: Stacked) -> bool
     stacked == Stacked::UNUSED
 }
 
-fn states_legal(active: Active) -> bool
-    requires { active.len ≤ 64 }
-    ensures { result ≡ every legal_state (take active.len active.states) }
+fn all_legal(states: &[State]) -> bool
+    ensures { result ≡ every legal_state states.now }
 {
-    active.states[..active.len]
-        .iter()
-        .all(|state| is_legal_state(*state))
+    states.iter().all(|state| is_legal_state(*state))
 }
 
-fn states_unused(active: Active) -> bool
-    requires { active.len ≤ 64 }
-    ensures { result ≡ every unused_state (drop active.len active.states) }
+fn all_unused(states: &[State]) -> bool
+    ensures { result ≡ every unused_state states.now }
 {
-    active.states[active.len..]
-        .iter()
-        .all(|state| is_unused_state(*state))
+    states.iter().all(|state| is_unused_state(*state))
 }
 
 // No queued age is above the one in front of it.
-fn ages_fall(queue: Queue) -> bool
-    requires { queue.queued ≤ 16 }
-    ensures { result ≡ falling (list_in queue) }
+fn ages_fall(queued: &[Stacked]) -> bool
+    ensures { result ≡ falling (map queued_of queued.now) }
 {
-    for pair in queue.stacked[..queue.queued].windows(2) {
+    for pair in queued.windows(2) {
         if pair[0].since < pair[1].since {
             return false;
         }
@@ -65,13 +58,10 @@ fn ages_fall(queue: Queue) -> bool
     true
 }
 
-fn events_unused(queue: Queue) -> bool
-    requires { queue.queued ≤ 16 }
-    ensures { result ≡ every unused_stacked (drop queue.queued queue.stacked) }
+fn none_queued(stacked: &[Stacked]) -> bool
+    ensures { result ≡ every unused_stacked stacked.now }
 {
-    queue.stacked[queue.queued..]
-        .iter()
-        .all(|stacked| is_unused_event(*stacked))
+    stacked.iter().all(|place| is_unused_event(*place))
 }
 
 // What waits is a HoldTap of the table, with no more ticks left than its timeout.
@@ -89,17 +79,21 @@ fn waiting_good(image: &[u8], waiting: Option<WaitingState>) -> bool
 }
 
 // Whether no part of a layout breaks its rule, under an accepted image of so many layers.
+#[tactic(auto, unfolding(crate::specs::State::state_good))]
 pub(crate) fn state_good(image: &[u8], layers: usize, layout: Layout) -> bool
     requires { Sound image.now × (layers ≡ layers_of image.now) }
     ensures { result ≡ state_good image.now layout }
 {
     let Layout { active, queue } = layout;
-    active.len <= Layout::STATES
-        && queue.queued <= Layout::QUEUE
-        && states_legal(active)
+    if Layout::STATES < active.len || Layout::QUEUE < queue.queued {
+        return false;
+    }
+    let (held, unused) = active.states.split_at(active.len);
+    let (queued, empty) = queue.stacked.split_at(queue.queued);
+    all_legal(held)
         && active.default_layer < layers
-        && ages_fall(queue)
+        && ages_fall(queued)
         && waiting_good(image, active.waiting)
-        && states_unused(active)
-        && events_unused(queue)
+        && all_unused(unused)
+        && none_queued(empty)
 }
