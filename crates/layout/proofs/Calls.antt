@@ -23,7 +23,7 @@ use Rattle.layout.specs.Packed.{pad, no_state, no_stacked, states_in, queued_of,
 use Rattle.layout.specs.State.{state_good}
 use Rattle.layout.specs.Notes.{no_notes, noted}
 use Rattle.layout.specs.Calls.{verdict_in, judged_of, answer_of, layout_after, buffered, handed, replied}
-use Rattle.layout.specs.Inside.{Tidy, Lined, Handed, judged_layers}
+use Rattle.layout.specs.Inside.{Tidy, Lined, Ready, Handed, judged_layers}
 use Rattle.layout.specs.declared.active.State.{State}
 use Rattle.layout.specs.declared.active.Active.{Active}
 use Rattle.layout.specs.declared.active.WaitingState.{WaitingState}
@@ -35,14 +35,6 @@ use Rattle.layout.specs.declared.answer.Answered.{Answered}
 use Rattle.layout.proofs.Moves.{Finished}
 use Rattle.layout.proofs.Parts.{held_length, list_length}
 use Rattle.layout.proofs.States.{legal, legal_tidy, legal_lined}
-
--- what a call that is not refused starts from: its table, its buffer, and both parts of its layout in order
-pub record Opened (img : List ℕ) (lay : Layout) (room : ℕ) : Type 0 where
-  pub fine : judged_of img lay room ≡ fine
-  pub sound : Sound img
-  pub roomy : 64 ≤ room
-  pub tidy : Tidy lay.active
-  pub lined : Lined lay.queue
 
 fine_sound : (x : Checked) (img : List ℕ) → check_of img ≡ x → verdict_in x ≡ fine → Sound img
 fine_sound (Ok s) img c e = (accepted img s c).1
@@ -66,13 +58,13 @@ granted_err : (v : Verdict) (a : ℕ) (f : Fault) → granted v a ≡ Err f → 
 granted_err (Ok u) a f e = cc
 granted_err (Err g) a f e = cc
 
-pub opened : (img : List ℕ) (lay : Layout) (room : ℕ) {judged : Result ℕ Fault} {layers : ℕ} → length lay.active.states ≡ 64 → length lay.queue.stacked ≡ 16
-    → judged ≡ judged_layers img lay room → judged ≡ Ok layers → Opened img lay room × (layers ≡ layers_of img)
-opened img lay room {judged} {layers} e f j g =
-    let both = granted_ok (judged_of img lay room) (layers_of img) layers (sym j ∙ g) in
+pub ready : (img : List ℕ) (lay : Layout) (room n : ℕ) → length lay.active.states ≡ 64 → length lay.queue.stacked ≡ 16 → judged_layers img lay room ≡ Ok n
+    → Ready img n lay.active lay.queue × (64 ≤ room)
+ready img lay room n e f j =
+    let both = granted_ok (judged_of img lay room) (layers_of img) n j in
     let a = judged_fine img lay room both.0 in
     let good = legal img lay a.1 in
-    (record { fine = both.0; sound = a.0; roomy = a.2; tidy = legal_tidy img lay good e; lined = legal_lined img lay good f }, both.1)
+    (record { sound = a.0; layers = both.1; tidy = legal_tidy img lay good e; lined = legal_lined img lay good f }, a.2)
 
 map_stacked : (l : List Stacked) → map stacked_of (map queued_of l) ≡ l
 map_stacked [] = refl
@@ -103,15 +95,15 @@ unfolding replied answer_of layout_after buffered
 call_refused img lay buffer step j e = rw (granted_err (judged_of img lay (length buffer)) (layers_of img) _ (sym j ∙ e))
 
 -- a call that was not
-pub call_finished : (img : List ℕ) (lay : Layout) (end : Progress) (queue : Queue) (step : Model → Done) (buffer after : List ℕ) (a : Answered)
-    → Opened img lay (length buffer) → Finished img end queue (step (unpack img lay)) → Handed end queue a buffer after
+pub call_finished : (img : List ℕ) (lay : Layout) (end : Progress) (queue : Queue) (step : Model → Done) (buffer after : List ℕ) (a : Answered) {judged : Result ℕ Fault} {n : ℕ}
+    → judged ≡ judged_layers img lay (length buffer) → judged ≡ Ok n → Finished img end queue (step (unpack img lay)) → Handed end queue a buffer after
     → handed a after ≡ replied img step lay buffer
 unfolding replied answer_of layout_after buffered
-call_finished img lay end queue step buffer after a o w h =
+call_finished img lay end queue step buffer after a j o w h =
     let done = step (unpack img lay) in
     let held : states_in end.active ≡ done.layout.states = ap (λ (m : Model). m.states) w.1.is in
     let whole : record { active = end.active; queue = queue } ≡ pack done.layout = packed img end.active queue w.1.tidy w.0 ∙ ap pack w.1.is in
     let answers : a ≡ record { answer = Ok (record { codes = length (codes done.layout.states); notes = noted no_notes done }); layout = pack done.layout } =
     h.0 ∙ (λ i. record { answer = Ok (record { codes = length (codes (held i)); notes = w.1.notes i }); layout = whole i }) in
     let bytes : after ≡ laid (codes done.layout.states) buffer = h.1 ∙ ap (λ (s : List State). laid (codes s) buffer) held in
-    rw o.fine (λ i. handed (answers i) (bytes i))
+    rw (granted_ok (judged_of img lay (length buffer)) (layers_of img) _ (sym j ∙ o)).0 (λ i. handed (answers i) (bytes i))

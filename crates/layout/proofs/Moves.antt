@@ -15,11 +15,11 @@ use Rattle.image.specs.Words.{layers_of}
 use Rattle.image.specs.Tree.{Action}
 use Rattle.image.specs.Table.{Table, table_of}
 use Rattle.layout.specs.Model.{Queued, Model, Waiting, Idle, Waits, Acted, Done, age_of, still, marked, after, with_waiting, with_queue}
-use Rattle.layout.specs.Actions.{decided}
+use Rattle.layout.specs.Actions.{find, decided}
 use Rattle.layout.specs.Steps.{act, into, into_hold, into_tap, releases, released, overflow, appended, entered, event, older, tick_wait, ticked, tick}
 use Rattle.layout.specs.Packed.{list_in, waiting_of, waits_at, model_of, unpack}
 use Rattle.layout.specs.Notes.{no_notes, note_acted, noted, noted_marks}
-use Rattle.layout.specs.Inside.{Tidy, Lined, Moves, Did, Steps, setting_of, becomes, waited_one}
+use Rattle.layout.specs.Inside.{Tidy, Lined, Moves, Did, Steps, becomes, waited_one}
 use Rattle.layout.specs.Effects.{effect_of, Settled, Grown}
 use Rattle.layout.specs.declared.active.Active.{Active}
 use Rattle.layout.specs.declared.active.WaitingState.{WaitingState}
@@ -28,7 +28,6 @@ use Rattle.layout.specs.declared.notes.Way.{Way}
 use Rattle.layout.specs.declared.notes.Way.TheVariants.{Hold}
 use Rattle.layout.specs.declared.notes.Notes.{Notes}
 use Rattle.layout.specs.declared.queue.Queue.{Queue}
-use Rattle.layout.specs.declared.action.Setting.{Setting}
 use Rattle.layout.specs.declared.effect.Effect.{Effect}
 use Rattle.layout.specs.declared.effect.Progress.{Progress}
 use Rattle.layout.specs.declared.layout.Layout.{Layout}
@@ -141,13 +140,13 @@ module _ (img : List ℕ) (active : Active) (notes : Notes) (way : Way) where
   into_on q end w e d = did_as img d (sym (ap (λ (x : Option WaitingState). into way (table_of img) (waiting_of img x) (model_of img active q)) e))
 
   -- the HoldTap that waits is decided in its setting, and what that left is taken
-  pub becomes_so : (layers : ℕ) (queue : Queue) (w : WaitingState) (setting : Setting) (effect last : Effect) (a b : List ℕ) (end : Progress) → Tidy active → layers ≡ layers_of img
-      → setting ≡ setting_of layers queue w.coord → effect ≡ effect_of active notes → Settled img w.number setting way effect last a b → Grown active last b w.coord end
+  pub becomes_so : (layers : ℕ) (queue : Queue) (w : WaitingState) (found : Option ℕ) (effect last : Effect) (a b : List ℕ) (end : Progress) → Tidy active → layers ≡ layers_of img
+      → found ≡ find w.coord (list_in queue) → effect ≡ effect_of active notes
+      → Settled img w.number (record { layers = layers; coord = w.coord; delay = 0; found = found }) way effect last a b → Grown active last b w.coord end
       → Steps img (record { active = active; notes = notes }) end queue (becomes img way w)
   unfolding into
-  becomes_so layers queue w setting effect last a b end t el es ee d g =
-      let there : Settled img w.number (setting_of layers queue w.coord) way effect last a b = subst (λ (s : Setting). Settled img w.number s way effect last a b) es d in
-      did_as img (did_effect img w.coord active notes end effect last a b t ee there g (list_in queue)) (rw el)
+  becomes_so layers queue w found effect last a b end t el ef ee d g =
+      did_as img (did_effect img w.coord active notes end effect last a b t ee d g (list_in queue)) (rw (el, ef))
 
 -- a tick where something waits: it has a tick less, or becomes hold where none is left
 module _ (img : List ℕ) (active : Active) (notes : Notes) (queue : Queue) (w : WaitingState) (k : ℕ) (ek : k ≡ w.left - 1) where

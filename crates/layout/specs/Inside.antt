@@ -9,7 +9,6 @@ use Rattle.image.specs.Words.{layers_of}
 use Rattle.image.specs.Sound.{Sound}
 use Rattle.image.specs.Table.{table_of, tree_in}
 use Rattle.layout.specs.Model.{Queued, Model, Done, age_of, with_waiting}
-use Rattle.layout.specs.Actions.{find}
 use Rattle.layout.specs.Steps.{codes, pressed, act, into, tick_wait}
 use Rattle.layout.specs.Packed.{pad, no_state, no_stacked, states_in, queued_of, list_in, waiting_of, waits_at, model_of}
 use Rattle.layout.specs.Notes.{noted}
@@ -20,7 +19,6 @@ use Rattle.layout.specs.declared.notes.Notes.{Notes}
 use Rattle.layout.specs.declared.notes.Way.{Way}
 use Rattle.layout.specs.declared.queue.Stacked.{Stacked}
 use Rattle.layout.specs.declared.queue.Queue.{Queue}
-use Rattle.layout.specs.declared.action.Setting.{Setting}
 use Rattle.layout.specs.declared.effect.Progress.{Progress}
 use Rattle.layout.specs.declared.answer.Answered.{Answered}
 use Rattle.layout.specs.declared.layout.Layout.{Layout}
@@ -54,10 +52,6 @@ pub record Did (img : List ℕ) (before : Notes) (end : Progress) (q : List Queu
 
 abbrev pub Steps : List ℕ → Progress → Progress → Queue → (Model → Done) → Type 0
 Steps img begun end queue step = Did img begun.notes end (list_in queue) (step (model_of img begun.active (list_in queue)))
-
--- where what waits is decided
-abbrev pub setting_of : ℕ → Queue → Coord → Setting
-setting_of layers queue c = record { layers = layers; coord = c; delay = 0; found = find c (list_in queue) }
 
 -- the record that a press runs
 abbrev pub PressedTo : List ℕ → Active → Coord → Option ℕ → Type 0

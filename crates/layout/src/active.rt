@@ -26,7 +26,7 @@ pub struct WaitingState {
 }
 
 // The default layer, the states held, the places past their number zero, and what waits.
-#[derive(Clone, Copy, PartialEq, Eq)]
+#[derive(Clone, Copy, PartialEq, Eq, Debug)]
 pub struct Active {
     pub default_layer: usize,
     pub states: [State; Layout::STATES],

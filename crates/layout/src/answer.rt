@@ -17,7 +17,7 @@ pub struct Answer {
     pub notes: Notes,
 }
 
-#[derive(Clone, Copy, PartialEq, Eq)]
+#[derive(Clone, Copy, PartialEq, Eq, Debug)]
 pub struct Answered {
     pub answer: Result<Answer, Fault>,
     pub layout: Layout,

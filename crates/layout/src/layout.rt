@@ -1,10 +1,10 @@
 // The layout and its public calls: document 01, Layout. A call checks the image, then State, then Room.
 // Assumes nothing.
-ghost use Rattle.std.specs.Prelude.{◌≡◌};
+ghost use Rattle.std.specs.Prelude.{◌≡◌, ◌≤◌, IfOk};
 ghost use Rattle.layout.specs.Model.{fresh};
 ghost use Rattle.layout.specs.Packed.{pack};
 ghost use Rattle.layout.specs.Calls.{handed, shown, event_reply, tick_reply, keycodes_reply};
-ghost use Rattle.layout.specs.Inside.{judged_layers};
+ghost use Rattle.layout.specs.Inside.{Ready, judged_layers};
 
 use super::active::{Active, State};
 use super::answer::{Answer, Answered, answer_of};
@@ -18,15 +18,17 @@ use image::check;
 use refusal::{Fault, Refusal, rule};
 
 // What running actions changes, and the queued events.
-#[derive(Clone, Copy, PartialEq, Eq)]
+#[derive(Clone, Copy, PartialEq, Eq, Debug)]
 pub struct Layout {
     pub active: Active,
     pub queue: Queue,
 }
 
 // The image's own refusals, then State, then Room; and where nothing is refused, how many layers the table has.
+#[tactic(auto, unfolding(crate::specs::Calls::judged_of, refusal::specs::Verdict::or_else, refusal::specs::Verdict::rule))]
 fn judge(image: &[u8], layout: Layout, room: usize) -> Result<usize, Fault>
-    ensures { result ≡ judged_layers image.now layout room }
+    ensures is { result ≡ judged_layers image.now layout room }
+    ensures ready { IfOk result (λ layers. Ready image.now layers layout.active layout.queue × (64 ≤ room)) }
 {
     let layers = check(image)?.layers;
     rule(state_good(image, layers, layout), Refusal::State, 0)?;

@@ -15,7 +15,7 @@ pub struct Stacked {
     pub since: u16,
 }
 
-#[derive(Clone, Copy, PartialEq, Eq)]
+#[derive(Clone, Copy, PartialEq, Eq, Debug)]
 pub struct Queue {
     pub stacked: [Stacked; Layout::QUEUE],
     pub queued: usize,

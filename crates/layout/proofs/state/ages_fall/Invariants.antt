@@ -7,4 +7,4 @@ use Rattle.layout.proofs.state.ages_fall.Given as goal
 
 abbrev pub invariant-loop-pair : goal.invariant-loop-pair
 invariant-loop-pair l =
-    (l.pair-iterator.size ≡ 2) × (falling (map queued_of l.queued.now) ≡ falling (map queued_of l.pair-iterator.rest.now))
+    (l.pair-iterator.size ≡ 2) × (falling (map queued_of l.queued) ≡ falling (map queued_of l.pair-iterator.rest.now))
