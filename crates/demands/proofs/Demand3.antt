@@ -8,12 +8,11 @@ use mathlib.Core.List.{List, [], ◌++◌}
 use native.Mathlib.Omega.{arith}
 use lib.Dec.{eqb}
 use lib.ListN.{length, get_or}
-use Rattle.lists.specs.Lists.{every}
 use Rattle.lists.proofs.Laws.{both_true}
 use Rattle.codes.specs.Report.{with_codes, report_of}
-use Rattle.refusal.specs.Verdict.{or_else, Verdict, fine, refused}
+use Rattle.refusal.specs.Verdict.{or_else, Verdict, fine}
 use Rattle.refusal.proofs.Said.{number_some}
-use Rattle.image.specs.Check.{check_of}
+use Rattle.image.specs.Check.{Checked, check_of}
 use Rattle.image.specs.Table.{table_of, times_of}
 use Rattle.image.specs.declared.words.Shape.{Shape}
 use Rattle.image.proofs.Accepted.{accepted}
@@ -80,7 +79,7 @@ of_fresh img shape bytes e calls room = of_images img shape bytes e fresh (fresh
 heard_fine : (v : Verdict) (done : Done) → eqb (said no_answer (answer_of v done)).number 0 ≡ true → v ≡ fine
 unfolding answer_of
 heard_fine (Ok u) done h = refl
-heard_fine (Err f) done h = let z = number_some r in cc
+heard_fine (Err f) done h = let z = number_some f.refusal in cc
 
 heard_by : (x : Checked) (img : List ℕ) (layout : Layout) (buffer : List ℕ) → check_of img ≡ x → judged_of img layout (length buffer) ≡ fine → Given img buffer
 unfolding judged_of or_else

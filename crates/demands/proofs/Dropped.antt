@@ -1,7 +1,7 @@
 -- What the count of dropped states is worth: specs/Dropped.antt.
 -- Assumes nothing.
-use Rattle.refusal.specs.Verdict.{Verdict, fine, refused}
-use Rattle.std.specs.Prelude.{Ok, Err}
+use Rattle.refusal.specs.Verdict.{Verdict, fine}
+use Rattle.std.specs.Prelude.{Ok, Err, Option, Some}
 use Prim.Native.Nat.{ℕ, zero, suc, ◌+◌, ◌≤◌}
 use mathlib.Core.Path.{◌≡◌, refl, sym, ap, ap₂, subst, ◌∙◌}
 use mathlib.Core.Bool.{true}
@@ -37,10 +37,10 @@ use Rattle.demands.specs.Dropped.{dropped_if, count_in, Told, NoneShown, counts_
 use Rattle.demands.proofs.Adding.{Match, follow_event, follow_tick, Any, None, all, nothing, all_told, none_told, none_dropped, push_follows, silent_follows, kept_follows}
 use Rattle.demands.proofs.Drops.{event_drops, tick_drops}
 use Rattle.demands.proofs.Limits.{of_calls}
-use Rattle.demands.proofs.Replies.{reply_with, given_codes, fine, stays_lawful, step_is, reply_is, marks_are}
+use Rattle.demands.proofs.Replies.{reply_with, given_codes, none_refused, stays_lawful, step_is, reply_is, marks_are}
 
 -- marks leave the count of the notes, and a count that does not stop is the count
-decision_count : (k : ℕ) (d : Decision) (n : Notes) → (decision_at k d n).dropped ≡ n.dropped
+decision_count : (k : ℕ) (d : Option Decision) (n : Notes) → (decision_at k d n).dropped ≡ n.dropped
 decision_count zero d n = refl
 decision_count (suc zero) d n = refl
 decision_count (suc (suc k)) d n = refl
@@ -50,7 +50,7 @@ unfolding noted_marks
 marks_count [] n = refl
 marks_count (Acted e ∷ ms) n = marks_count ms (note_acted n e)
 marks_count (Begun c ∷ ms) n = marks_count ms n
-marks_count (Decided c w ∷ ms) n = marks_count ms (note_decision n c w) ∙ decision_count n.made (decision.Made c w) n
+marks_count (Decided c w ∷ ms) n = marks_count ms (note_decision n c w) ∙ decision_count n.made (Some (record { coord = c; way = w })) n
 
 counted_few : (k : ℕ) → k ≤ 65535 → counted 0 k ≡ k
 counted_few zero h = refl
@@ -124,7 +124,7 @@ untold_reply image layout buffer y = go (judged_of image layout (length buffer))
         (record { told = said no_answer (answer_of j (untold y)); layout = layout_after j (untold y) layout; buffer = buffered j (untold y) buffer })
         (uncounted (record { told = said no_answer (answer_of j y); layout = layout_after j y layout; buffer = buffered j y buffer }))
     go (Ok u) =
-        ap (λ (k : ℕ). record { told = record { number = 0; place = 0; codes = length (codes y.layout.states); notes = record { acted = n.acted; made = n.made; first = n.first; second = n.second; dropped = k } }; layout = pack y.layout; buffer = buffered fine y buffer })
+        ap (λ (k : ℕ). record { told = record { number = 0; place = 0; values = record { codes = length (codes y.layout.states); notes = record { acted = n.acted; made = n.made; first = n.first; second = n.second; dropped = k } } }; layout = pack y.layout; buffer = buffered fine y buffer })
         (marks_count y.marks no_notes)
     go (Err f) = refl
 
@@ -163,7 +163,7 @@ module _ (img : List ℕ) (shape : Shape) (e : check_of img ≡ Ok shape) where
 
   count_is : (k : Call) (l : Model) (buffer : List ℕ) → Lawful img l → 64 ≤ length buffer → count_in (reply img k (pack l) buffer) ≡ (call table k l).dropped
   unfolding Told dropped_if
-  count_is k l buffer w h = (told img k (pack l) buffer).0 ∙ rw (fine img shape e l (length buffer) w h, step_is img shape e k l w)
+  count_is k l buffer w h = (told img k (pack l) buffer).0 ∙ rw (none_refused img shape e l (length buffer) w h, step_is img shape e k l w)
 
   full : (ks : List Lent) (l : Model) → Lawful img l → Roomy ks → every (λ n. eqb n 0) (counts_in (replies img ks (pack l))) ≡ true
       → (map said_in (replies img ks (pack l)) ≡ says_by kept table (calls_of ks) l) × (last_layout (pack l) (replies img ks (pack l)) ≡ pack (leaves_by kept table (calls_of ks) l))

@@ -231,7 +231,7 @@ weighs (DefaultLayer v) = omega arith
 weighs (HoldTap i t h p) = omega arith
 
 -- every action that a press finds in an accepted table is light
-cell_light : (img : List ℕ) → Sound img → (c : Cell) → weight (tree_in img c) ≤ 64
+cell_light : (img : List ℕ) → Sound img → (c : Option ℕ) → weight (tree_in img c) ≤ 64
 unfolding tree_in weight
 cell_light img s (Some n) = light img n s
 cell_light img s None = omega arith

@@ -1,6 +1,6 @@
 -- The limits of an answer: what a call does is limited, and its answer names it all. Document 01, Layout, its last paragraph.
 -- Assumes nothing.
-use Rattle.refusal.specs.Verdict.{Verdict, refused}
+use Rattle.refusal.specs.Verdict.{Verdict}
 use Rattle.std.specs.Prelude.{Ok, Err}
 use Prim.Native.Nat.{ℕ, ◌≤◌}
 use mathlib.Core.Path.{◌≡◌, refl}

@@ -8,8 +8,8 @@ use borrow.Author.Tests.{le-leb}
 use lib.Dec.{leb}
 use lib.ListN.{length, drop, replicate}
 use lib.Seq.{take_at}
-use Rattle.lists.specs.Lists.{every, laid}
-use Rattle.refusal.specs.Verdict.{rule, or_else, Verdict, fine, refused}
+use Rattle.lists.specs.Lists.{laid}
+use Rattle.refusal.specs.Verdict.{rule, or_else, Verdict, fine}
 use Rattle.refusal.specs.declared.Refusal.TheVariants.{Room}
 use Rattle.image.specs.Check.{check_of}
 use Rattle.image.specs.Sound.{Sound}
@@ -40,7 +40,7 @@ reply_with j done layout buffer = record { told = said no_answer (answer_of j do
 abbrev pub given : Done → List ℕ → Reply
 given done buffer =
     record {
-      told = record { number = 0; place = 0; codes = length (codes done.layout.states); notes = noted no_notes done };
+      told = record { number = 0; place = 0; values = record { codes = length (codes done.layout.states); notes = noted no_notes done } };
       layout = pack done.layout;
       buffer = laid (codes done.layout.states) buffer;
     }
@@ -56,9 +56,9 @@ module _ (img : List ℕ) (shape : Shape) (e : check_of img ≡ Ok shape) where
   unfolding judged_of or_else rule
   judged l room w = rw (e, lawful_good img l w)
 
-  pub fine : (l : Model) (room : ℕ) → Lawful img l → 64 ≤ room → judged_of img (pack l) room ≡ fine
+  pub none_refused : (l : Model) (room : ℕ) → Lawful img l → 64 ≤ room → judged_of img (pack l) room ≡ fine
   unfolding rule
-  fine l room w h = judged l room w ∙ rw (le-leb 64 room h)
+  none_refused l room w h = judged l room w ∙ rw (le-leb 64 room h)
 
   pub stays_lawful : (k : Call) (l : Model) → Lawful img l → Lawful img (call (table_of img) k l).layout
   unfolding call
@@ -86,7 +86,7 @@ module _ (img : List ℕ) (shape : Shape) (e : check_of img ≡ Ok shape) where
   pub marks_are : (k : Call) (l : Model) (buffer : List ℕ) → Lawful img l → 64 ≤ length buffer
       → marks_if (judged_of img (pack l) (length buffer)) (step img k (pack l)) ≡ (call (table_of img) k l).marks
   unfolding marks_if
-  marks_are k l buffer w h = rw (fine l (length buffer) w h, step_is k l w)
+  marks_are k l buffer w h = rw (none_refused l (length buffer) w h, step_is k l w)
 
   -- a run of the public calls and the run of the steps
   pub record Tied (ks : List Lent) (l : Model) : Type 0 where

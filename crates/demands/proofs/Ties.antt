@@ -160,9 +160,9 @@ module _ (t : Table) (k : Model) (c : Coord) (n timeout : ℕ) (hold tap : Actio
   unfolding pressed
   keyed q = e
 
-  found : (y : Queued) → y.event ≡ Release c.i c.j → find c (y ∷ []) ≡ At (age_of y)
+  found : (y : Queued) → y.event ≡ Release c.i c.j → find c (y ∷ []) ≡ Some (age_of y)
   unfolding find
-  found y ey = ap (λ (x : Event). cond (is_release c x) (At (age_of y)) None) ey ∙ rw (same_refl c)
+  found y ey = ap (λ (x : Event). cond (is_release c x) (Some (age_of y)) None) ey ∙ rw (same_refl c)
 
   -- an old press is acted on, its release behind it
   acts_queued : (y : Queued) → y.event ≡ Release c.i c.j → (age : ℕ) → decisions (act t (Press c.i c.j) age (with_queue (y ∷ []) k)).marks ≡ (c, cond (leb (age - age_of y) timeout) Tap Hold) ∷ []
@@ -170,8 +170,8 @@ module _ (t : Table) (k : Model) (c : Coord) (n timeout : ℕ) (hold tap : Actio
   acts_queued y ey age =
       let l = with_queue (y ∷ []) k in
       rw (keyed (y ∷ []), found y ey)
-      (decides_now (cond (leb (age - age_of y) timeout) Tap Hold) c (with_waiting (Waits c (timeout - age) n hold tap) l) (do_action tap t.layers c 0 (At (age_of y)) (with_waiting Idle l)) (do_action hold t.layers c 0 (At (age_of y)) (with_waiting Idle l))
-      (kept tap t.layers c 0 (At (age_of y)) (with_waiting Idle l) st).marks (kept hold t.layers c 0 (At (age_of y)) (with_waiting Idle l) sh).marks)
+      (decides_now (cond (leb (age - age_of y) timeout) Tap Hold) c (with_waiting (Waits c (timeout - age) n hold tap) l) (do_action tap t.layers c 0 (Some (age_of y)) (with_waiting Idle l)) (do_action hold t.layers c 0 (Some (age_of y)) (with_waiting Idle l))
+      (kept tap t.layers c 0 (Some (age_of y)) (with_waiting Idle l) st).marks (kept hold t.layers c 0 (Some (age_of y)) (with_waiting Idle l) sh).marks)
 
   ticks_queued : (x y : Queued) → k.waiting ≡ Idle → k.queue ≡ x ∷ y ∷ [] → x.event ≡ Press c.i c.j → y.event ≡ Release c.i c.j
       → decisions (tick t k).marks ≡ (c, cond (leb (age_of (older_one x) - age_of (older_one y)) timeout) Tap Hold) ∷ []

@@ -64,8 +64,8 @@ same_answer j x y was lay buffer e =
     bare_answer j x was was buffer ∙ ap (λ (done : Done). answered (reply_with j done was buffer)) e ∙ sym (bare_answer j y lay was buffer)
 
 same_after : (j : Verdict) (x y : Done) (l m : Model) → bare_done x ≡ bare_done y → bare l ≡ bare m → bare (model_after j x l) ≡ bare (model_after j y m)
-same_after (Ok u) x y l m e f = ap (λ (done : Done). done.layout) e
-same_after (Err f) x y l m e f = f
+same_after (Ok u) x y l m e k = ap (λ (done : Done). done.layout) e
+same_after (Err f) x y l m e k = k
 
 -- calls, and `keycodes` after them, are answered alike
 abbrev keycodes_after : List ℕ → List Lent → Layout → List ℕ → Said Answer × List ℕ
@@ -159,10 +159,10 @@ says_of (told, buffer) =
     record {
       number = told.number;
       place = told.place;
-      codes = take told.codes buffer;
-      acted = acted_in told.notes.acted;
-      decided = made_in told.notes;
-      dropped = told.notes.dropped;
+      codes = take told.values.codes buffer;
+      acted = acted_in told.values.notes.acted;
+      decided = made_in told.values.notes;
+      dropped = told.values.notes.dropped;
     }
 
 says_all : (rs : List Reply) → map says rs ≡ map says_of (map answered rs)

@@ -9,7 +9,7 @@ use native.Mathlib.Omega.{arith}
 use borrow.Author.Tests.{ltb-true, lt-ltb}
 use lib.Dec.{ltb}
 use lib.ListN.{length, get_or, replicate, length-replicate}
-use Rattle.lists.specs.Lists.{every, keep}
+use Rattle.lists.specs.Lists.{every}
 use Rattle.lists.proofs.Laws.{every_head}
 use Rattle.codes.specs.Codes.{legal}
 use Rattle.event.specs.declared.Coord.{Coord}
@@ -19,7 +19,7 @@ use Rattle.image.specs.Record.{action_of, action_at, codes_in, children_in, list
 use Rattle.image.specs.Tree.{KeyCode, named, meaning, trees, tree, open?, some_open, shut_but_last, opens_last, weight, longest}
 use Rattle.image.specs.Table.{tree_in, table_of, longest_below, times_of}
 use Rattle.refusal.specs.Verdict.{rule, or_else, first_fault}
-use Rattle.image.specs.Check.{within, counts_good, offsets_good, header_good, head_fault, cell_fault, form, form_good, record_fault, body_fault, fault_of, answer, check_of}
+use Rattle.image.specs.Check.{within, counts_good, offsets_good, header_good, head_fault, cell_fault, form, form_good, record_fault, body_fault, fault_of, check_of}
 use Rattle.layout.specs.Model.{Waits, Acted, Begun, Decided, fresh, same}
 use Rattle.layout.specs.Actions.{push, push_codes, find, ruling, do_action, decided}
 use Rattle.layout.specs.Steps.{held, sum, current, pressed, release, act, into, released, overflow, entered, event, ticked, tick}
@@ -51,7 +51,7 @@ module _ (t : ℕ) where
 
   -- the check does not look at a timeout
   z_accepted : check_of (z_of t) ≡ Ok (shape_of (z_of t))
-  unfolding z_of legal word_at cell_of field_of entry_of entries action_of action_at codes_in children_in list_end named meaning trees tree open? some_open shut_but_last opens_last weight rule or_else first_fault within counts_good offsets_good header_good head_fault cell_fault form form_good record_fault body_fault fault_of answer check_of
+  unfolding z_of legal word_at cell_of field_of entry_of entries action_of action_at codes_in children_in list_end named meaning trees tree open? some_open shut_but_last opens_last weight rule or_else first_fault within counts_good offsets_good header_good head_fault cell_fault form form_good record_fault body_fault fault_of check_of
   z_accepted = refl
 
   z_longest : (times_of (z_of t)).first ≡ t

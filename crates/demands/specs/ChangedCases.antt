@@ -7,12 +7,13 @@ use Rattle.std.specs.Prelude.{ℕ, ◌+◌, ◌*◌, ◌-◌, ◌/◌, ◌≡◌
 use mathlib.Core.List.{List, [], ◌∷◌, ◌++◌, flatten}
 use Rattle.event.specs.declared.Coord.{Coord}
 use Rattle.event.specs.declared.Event.TheVariants.{Press}
-use Rattle.table_changes.specs.Changes.{said_of, compare_reply}
-use Rattle.std.specs.Prelude.{Ok}
+use Rattle.refusal.specs.Said.{said}
+use Rattle.table_changes.specs.Changes.{compare_reply}
+use Rattle.std.specs.Prelude.{Ok, Option}
 use Rattle.layout.specs.Model.{fresh}
 use Rattle.layout.specs.Packed.{waits_at}
 use Rattle.layout.specs.Reach.{waits_in}
-use Rattle.layout.specs.declared.active.Waiting.{Waiting}
+use Rattle.layout.specs.declared.active.WaitingState.{WaitingState}
 use Rattle.demands.specs.Runs.{Tick, Enter}
 use Rattle.demands.specs.Public.{lent_all, after_calls}
 use Rattle.demands.specs.Z.{z_of, z, lent}
@@ -116,7 +117,7 @@ abbrev pub key_listed : Answer
 key_listed = listed (0 ∷ 0 ∷ 0 ∷ []) 0
 
 -- what waits after a press of Z's HoldTap and a tick
-unfoldable pub waits_over : List ℕ → Waiting
+unfoldable pub waits_over : List ℕ → Option WaitingState
 waits_over image = waits_in (after_calls image fresh (lent_all lent (Enter (Press 0 0) ∷ Tick ∷ [])))
 
 pub record Cases : Type 0 where

@@ -7,8 +7,7 @@
 --     OfFresh      the case of a fresh layout
 --     Heard        a call that is not refused has such an image and such a buffer, so the demand holds wherever none is
 -- Assumes nothing.
-use Rattle.refusal.specs.Verdict.{refused}
-use Rattle.std.specs.Prelude.{ℕ, ◌≤◌, ◌<◌, ◌≡◌, List, [], ◌∷◌, ◌++◌, length, replicate, get_or, None, Some, Ok}
+use Rattle.std.specs.Prelude.{ℕ, ◌≤◌, ◌<◌, ◌≡◌, List, [], ◌∷◌, ◌++◌, length, replicate, get_or, None, Ok}
 use Rattle.codes.specs.Report.{report_of}
 use Rattle.image.specs.Check.{check_of}
 use Rattle.image.specs.Table.{times_of}

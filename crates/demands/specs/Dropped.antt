@@ -10,7 +10,7 @@
 --     NothingLost  where every count of a run is 0, its answers are those of the same steps with room for any number of states,
 --                  and so is the layout that it leaves: the 64 never mattered
 -- Assumes nothing.
-use Rattle.refusal.specs.Verdict.{Verdict, refused}
+use Rattle.refusal.specs.Verdict.{Verdict}
 use Rattle.std.specs.Prelude.{ℕ, ◌+◌, ◌≤◌, ◌≡◌, true, List, [], ◌∷◌, map, eqb, length, Option, Ok, Err}
 use Rattle.lists.specs.Lists.{every}
 use Rattle.event.specs.declared.Coord.{Coord}
@@ -93,14 +93,17 @@ Same = (image : List ℕ) (k : Call) (layout : Layout) (buffer : List ℕ) → r
 abbrev pub uncounted : Reply → Reply
 uncounted r =
     let t = r.told in
-    let n = t.notes in
+    let n = t.values.notes in
     record {
       told =
           record {
             number = t.number;
             place = t.place;
-            codes = t.codes;
-            notes = record { acted = n.acted; made = n.made; first = n.first; second = n.second; dropped = 0 };
+            values =
+                record {
+                  codes = t.values.codes;
+                  notes = record { acted = n.acted; made = n.made; first = n.first; second = n.second; dropped = 0 };
+                };
           };
       layout = r.layout;
       buffer = r.buffer;

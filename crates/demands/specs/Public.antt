@@ -3,7 +3,7 @@
 -- (crates/layout/proofs/Unique.antt). In a run each call is on the layout that the one before it handed back, over one image,
 -- and each with a buffer of its own. What it may start from is `Starts` of crates/layout/specs/Reach.antt.
 -- Assumes nothing.
-use Rattle.refusal.specs.Verdict.{Verdict, refused}
+use Rattle.refusal.specs.Verdict.{Verdict}
 use Rattle.std.specs.Prelude.{ℕ, ◌≤◌, ◌≡◌, true, List, [], ◌∷◌, ◌++◌, map, eqb, length, Ok, Err}
 use Rattle.lists.specs.Lists.{every}
 use Rattle.image.specs.Table.{table_of}

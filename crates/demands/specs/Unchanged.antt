@@ -7,7 +7,6 @@
 --                       and give equal codes, acted-on events, decisions and counts of dropped states (W-202), call by call
 -- The layouts themselves may differ in one word: a HoldTap that waits is kept by the number of its record.
 -- Assumes nothing.
-use Rattle.refusal.specs.Verdict.{refused}
 use Rattle.std.specs.Prelude.{◌≡◌, List, map, ℕ}
 use Rattle.table_changes.specs.Changes.{compare_reply}
 use Rattle.std.specs.Prelude.{Ok}
