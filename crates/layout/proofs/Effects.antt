@@ -3,7 +3,7 @@
 --     new-wait, new-base, settled, push-room, push-full     an effect with one part put in, and the step that it is
 --     effected-as, effected-then, effected-begun     the same step by another name; one step after another; a hold-tap begun
 --     Left     where a loop over a list of steps stands: what is done and what is left make the whole
---     effect-starts, effect-ends, did-effect     a effect of a run, and the run with what it left
+--     did_effect     a run with what its effect left
 use mathlib.Core.Path.{◌≡◌, refl, sym, ap, subst, ◌∙◌}
 use mathlib.Core.List.{List, ◌∷◌, [], ◌++◌, append_assoc, append-nil, map}
 use Prim.Native.Nat.{ℕ, ◌+◌, ◌≤◌, ◌<◌}
@@ -218,11 +218,3 @@ module _ (img : List ℕ) (c : Coord) where
         is = model_of_lem q g.base g.states (ap (waiting_of img) g.waiting) ∙ d.is s h q ∙ ap (λ (m : Model). (f m).layout) first;
         notes = g.notes ∙ d.notes s h q ∙ ap (λ (m : Model). noted effect.notes (f m)) first ∙ ap (λ (x : Effect). noted x.notes (f (model_of img active q))) e;
       }
-
--- an action begins, with room for all that it may add, and what it added may be taken
-pub effect_starts : (active : Active) (notes : Notes) (effect : Effect) (a : List ℕ) → Tidy active → effect ≡ effect_of active notes → length a ≡ 64 → HasRoom effect a
-effect_starts active notes effect a t e l = record { few = omega (arith, t.few, ap (λ (x : Effect). x.held) e, ap (λ (x : Effect). x.added) e); long = l }
-
-pub effect_ends : (img : List ℕ) (c : Coord) (active : Active) (notes : Notes) (effect last : Effect) (a b : List ℕ) {f : Model → Done} → Tidy active → effect ≡ effect_of active notes → Effected img c effect last a b f
-    → Tidy active × HasRoom last b × (last.held ≡ active.len)
-effect_ends img c active notes effect last a b t e d = (t, d.roomy, d.held ∙ ap (λ (x : Effect). x.held) e)

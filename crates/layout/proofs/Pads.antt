@@ -3,11 +3,10 @@ use mathlib.Core.Path.{◌≡◌, refl, sym, ap, ◌∙◌}
 use mathlib.Core.Bool.{Bool, true, false, cond}
 use mathlib.Core.List.{List, [], ◌∷◌, ◌++◌, append-nil, map}
 use Prim.Native.Nat.{ℕ, zero, suc, ◌+◌, ◌-◌, ◌≤◌, ◌<◌}
-use native.Mathlib.Numerals.{add-one, sub-one}
+use native.Mathlib.Numerals.{add-one}
 use native.Mathlib.Omega.{arith}
-use native.Mathlib.Nat.{add_comm}
-use lib.ListN.{length, take, drop, set, get_or, replicate, length-append, length-replicate, length-take, length-drop, length-map, drop_of_length-le, take-append-drop, get_or-append}
-use lib.Seq.{set_at, set-append_seam, append_snoc, take-append_seam, take-suc, length-take-le, drop-cons, drop_at, get_or_at, get_or-take, get_or-drop, take-nil}
+use lib.ListN.{length, take, drop, set, get_or, replicate, length-append, length-replicate, length-map, take-append-drop}
+use lib.Seq.{set_at, set-append_seam, append_snoc, take-append_seam, take-suc, length-take-le, drop-cons, drop_at, get_or_at, take-nil}
 use Rattle.lists.specs.Lists.{keep}
 use Rattle.layout.specs.Packed.{pad}
 
@@ -23,16 +22,6 @@ module _ {A : Type 0} where
   pub length_pad : (n : ℕ) (z : A) (l : List A) → length l ≤ n → length (pad n z l) ≡ n
   length_pad n z l h = simp (length-append, length-replicate) (omega arith)
 
-  pub get_d_pad : (n : ℕ) (z : A) (l : List A) (i : ℕ) (d : A) → i < length l → get_or (pad n z l) i d ≡ get_or l i d
-  get_d_pad n z l i d h = get_or-append l _ d i h
-
-  -- one element more of the first n, from a place on; and none
-  pub drop_one : (l : List A) (n i : ℕ) (d : A) → i < n → n ≤ length l → drop i (take n l) ≡ get_or l i d ∷ drop (i + 1) (take n l)
-  drop_one l n i d h hl =
-      let len : length (take n l) ≡ n = length-take-le n l hl in
-      let lt : i < length (take n l) = omega arith in
-      rw (add-one) (drop-cons (take n l) i d lt ∙ ap (λ (x : A). x ∷ drop (suc i) (take n l)) (get_or-take n l i d h))
-
   pub drop_next : (l : List A) (i : ℕ) (d : A) → i < length l → drop i l ≡ get_or l i d ∷ drop (i + 1) l
   drop_next l i d h = rw (add-one) (drop-cons l i d h)
 
@@ -40,9 +29,6 @@ module _ {A : Type 0} where
   take_all [] i h = take-nil i
   take_all (a ∷ l) zero h = absurd (omega arith)
   take_all (a ∷ l) (suc i) h = ap (λ (x : List A). a ∷ x) (take_all l i (omega arith))
-
-  pub drop_done : (l : List A) (n : ℕ) → drop n (take n l) ≡ []
-  drop_done l n = drop_of_length-le (take n l) {i = n} (simp length-take (omega arith))
 
   -- the array and the count after one more element
   pub held_more : (n : ℕ) (z : A) (l : List A) (a : A) (arr : List A) (k : ℕ) → k < n → k ≡ length l → arr ≡ pad n z l
@@ -92,30 +78,11 @@ module _ {A : Type 0} where
   pub place_at : (l arr : List A) (k : ℕ) (d : A) → k ≡ length l → k < length arr → get_or (l ++ drop k arr) k d ≡ get_or arr k d
   place_at l arr k d e h = rw (drop-cons arr k d h) (get_or_at l (get_or arr k d) (drop (suc k) arr) d k (sym e))
 
-  pub place_next : (l arr : List A) (k : ℕ) (d : A) → k ≡ length l → k + 1 < length arr → get_or (l ++ drop k arr) (k + 1) d ≡ get_or arr (k + 1) d
-  place_next l arr k d e h =
-      let one : l ++ drop k arr ≡ (l ++ (get_or arr k d ∷ [])) ++ drop (k + 1) arr = rw (add-one, append_snoc) (ap (λ (x : List A). l ++ x) (drop-cons arr k d (omega arith))) in
-      rw one (place_at (l ++ (get_or arr k d ∷ [])) arr (k + 1) d (simp length-append (omega arith)) h)
-
-  -- a loop that moves each element one place up
-  pub tail_on : (l arr : List A) (k : ℕ) (d : A) → k + 1 < length l → arr ≡ take k (drop 1 l) ++ drop k l → set arr k (get_or arr (k + 1) d) ≡ take (k + 1) (drop 1 l) ++ drop (k + 1) l
-  tail_on l arr k d h e =
-      let short = length-drop 1 l in
-      let here : k ≡ length (take k (drop 1 l)) = sym (length-take-le k (drop 1 l) (omega arith)) in
-      let next : get_or (drop 1 l) k d ≡ get_or l (k + 1) d = get_or-drop 1 l k d ∙ ap (λ (j : ℕ). get_or l j d) (add_comm 1 k) in
-      let more : take (k + 1) (drop 1 l) ≡ take k (drop 1 l) ++ (get_or l (k + 1) d ∷ []) = rw (← next) (rw (add-one) (take-suc (drop 1 l) k d (omega arith))) in
-      rw (e, place_next (take k (drop 1 l)) l k d here h, buf_more (take k (drop 1 l)) l (get_or l (k + 1) d) k here (omega arith), more)
-
   -- what stands behind the used places of an array
   pub clean_rest : (n k : ℕ) (z : A) (arr : List A) → k ≤ length arr → pad n z (take k arr) ≡ arr → drop k arr ≡ replicate (n - k) z
   clean_rest n k z arr h clean =
       let len : length (take k arr) ≡ k = length-take-le k arr h in
       ap (drop k) (sym clean) ∙ drop_at (take k arr) _ k len ∙ ap (λ (j : ℕ). replicate (n - j) z) len
-
-  pub drop1_take : (n : ℕ) (l : List A) → drop 1 (take n l) ≡ take (n - 1) (drop 1 l)
-  drop1_take zero l = refl
-  drop1_take (suc n) [] = sym (take-nil (suc n - 1))
-  drop1_take (suc n) (a ∷ l) = rw sub-one
 
   -- the first n of a list and n zeros behind are the list, where those behind are the zero
   pub padded : (n k : ℕ) (z : A) (l : List A) → length l ≡ n → k ≤ n → drop k l ≡ replicate (n - k) z → pad n z (take k l) ≡ l

@@ -1,7 +1,7 @@
 -- From a layout at its start, over one accepted image, no call is refused State, whatever events and ticks came before.
 -- Assumes nothing.
 use mathlib.Core.Path.{◌≡◌, refl, ap, ◌∙◌}
-use mathlib.Core.Bool.{Bool, true, ◌&&◌}
+use mathlib.Core.Bool.{true}
 use mathlib.Core.List.{List, [], ◌∷◌, map}
 use Prim.Native.Nat.{ℕ, zero, suc, ◌-◌}
 use native.Mathlib.Omega.{arith}
@@ -19,10 +19,9 @@ use Rattle.image.proofs.Accepted.{accepted}
 use Rattle.layout.specs.Model.{Queued, Model, Waiting, Idle, Waits, Done, fresh}
 use Rattle.layout.specs.Steps as step
 use Rattle.layout.specs.Packed.{pad, no_state, no_stacked, queued_of, stacked_of, waiting_of, waiting_in, pack, unpack}
-use Rattle.layout.specs.State.{legal_state, waiting_good, unused_state, unused_stacked, falling, state_good}
+use Rattle.layout.specs.State.{waiting_good, unused_state, unused_stacked, falling, state_good}
 use Rattle.layout.specs.Calls.{judged_of, layout_after}
 use Rattle.layout.specs.Reach.{waits_in, Starts, FreshStarts, Reached, start, event, tick, NeverRefusedState}
-use Rattle.layout.specs.declared.active.State.{State}
 use Rattle.layout.specs.declared.active.WaitingState.{WaitingState}
 use Rattle.layout.specs.declared.layout.Layout.{Layout}
 use Rattle.layout.specs.declared.queue.Stacked.{Stacked}

@@ -1,10 +1,10 @@
 -- Laws of the State check: each test one place on, and what a layout that passes is. Assumes nothing.
-use mathlib.Core.Path.{◌≡◌, refl, sym, ap, ◌∙◌}
+use mathlib.Core.Path.{◌≡◌, refl, ap, ◌∙◌}
 use mathlib.Core.Bool.{Bool, true, false, ◌&&◌}
 use mathlib.Core.List.{List, [], ◌∷◌, map}
-use Prim.Native.Nat.{ℕ, ◌+◌, ◌≤◌, ◌<◌}
+use Prim.Native.Nat.{ℕ, ◌≤◌, ◌<◌}
 use native.Mathlib.Omega.{arith}
-use borrow.Author.Tests.{leb-true, ltb-true, eqb-true, le-leb, lt-leb}
+use borrow.Author.Tests.{leb-true, ltb-true, eqb-true}
 use lib.Dec.{leb, ltb, eqb}
 use lib.ListN.{length, take, drop, get_or, replicate, length-drop}
 use Rattle.lists.specs.Lists.{every}
@@ -23,7 +23,7 @@ use Rattle.layout.specs.declared.active.State.{State}
 use Rattle.layout.specs.declared.active.State.TheVariants.{NormalKey, LayerModifier}
 use Rattle.layout.specs.declared.queue.Stacked.{Stacked}
 use Rattle.layout.specs.declared.layout.Layout.{Layout}
-use Rattle.layout.proofs.Pads.{drop_one, padded}
+use Rattle.layout.proofs.Pads.{padded}
 
 -- the ages of two that follow each other, where the others stand behind them
 pub falling_pair : (l pair : List Stacked) (d : Stacked) → 2 ≤ length l → pair ≡ take 2 l

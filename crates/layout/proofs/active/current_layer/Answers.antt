@@ -1,11 +1,11 @@
 -- `layout::active::current_layer` meets its contract. Assumes nothing.
-use mathlib.Core.Path.{◌≡◌, refl, sym, ap, ◌∙◌}
+use mathlib.Core.Path.{◌≡◌, refl, sym}
 use native.Mathlib.Omega.{arith}
-use lib.ListN.{length, take, length-take}
-use Rattle.layout.specs.Steps.{held, current}
+use lib.ListN.{take, length-take}
+use Rattle.layout.specs.Steps.{held}
 use Rattle.layout.specs.Packed.{no_state}
 use Rattle.layout.proofs.Pads.{take_all}
-use Rattle.layout.proofs.Codes.{summed, layer_more, no_layer, current_is}
+use Rattle.layout.proofs.Codes.{layer_more, no_layer, current_is}
 use Rattle.layout.proofs.active.current_layer.Goals as goal
 use Rattle.layout.proofs.active.current_layer.Goals.{in-LayerModifier, in_default}
 

@@ -1,7 +1,7 @@
 -- `layout::active::release` meets its contract. Assumes nothing.
-use mathlib.Core.Path.{◌≡◌, refl, sym, ap, ◌∙◌}
+use mathlib.Core.Path.{◌≡◌, refl, sym, ◌∙◌}
 use native.Mathlib.Omega.{arith}
-use lib.ListN.{length, take, length-take}
+use lib.ListN.{take, length-take}
 use Rattle.lists.specs.Lists.{keep}
 use Rattle.layout.specs.Steps.{stays, release}
 use Rattle.layout.specs.Packed.{no_state}

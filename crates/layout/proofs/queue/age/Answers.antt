@@ -1,7 +1,7 @@
 -- `layout::queue::age` meets its contract. Assumes nothing.
 use mathlib.Core.List.{append-nil, map}
-use mathlib.Core.Path.{◌≡◌, refl, ap, ◌∙◌}
-use lib.ListN.{take, drop, drop_of_length-le}
+use mathlib.Core.Path.{refl, ◌∙◌}
+use lib.ListN.{take, drop_of_length-le}
 use Rattle.layout.specs.Packed.{no_stacked}
 use Rattle.layout.proofs.Pads.{map_on, take_all}
 use Rattle.layout.proofs.Parts.{older_in, aged}

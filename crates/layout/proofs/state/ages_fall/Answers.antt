@@ -1,12 +1,10 @@
 -- `layout::state::ages_fall` meets its contract. Assumes nothing.
 use mathlib.Core.List.{map}
-use mathlib.Core.Path.{◌≡◌, refl, sym, ap, ◌∙◌}
+use mathlib.Core.Path.{refl, sym, ◌∙◌}
 use native.Mathlib.Omega.{arith}
-use Prim.Native.Nat.{ℕ, ◌≤◌}
 use borrow.Author.Tests.{le-leb, lt-leb}
-use lib.ListN.{length, take, length-map}
+use lib.ListN.{length-map}
 use Rattle.layout.specs.Packed.{queued_of, no_stacked}
-use Rattle.layout.specs.State.{falling}
 use Rattle.layout.proofs.States.{falling_pair, falling_short}
 use Rattle.layout.proofs.state.ages_fall.Goals as goal
 
