@@ -5,6 +5,7 @@
 ghost use Rattle.std.specs.Prelude.{◌≡◌};
 ghost use Rattle.codes.specs.Codes.{legal, modifier, modifier_bit};
 
+// Names for bytes and no enum, since every byte has an answer.
 #[derive(Clone, Copy)]
 pub struct KeyCode;
 
@@ -411,7 +412,7 @@ impl KeyCode {
         matches!(code, KeyCode::LCtrl..=KeyCode::RGui)
     }
 
-    // The modifier's bit in the report's first byte; 0 for a code that is no modifier.
+    // The modifier's bit in the report's first byte; 0, which adds none, for a code that is no modifier.
     #[tactic(auto, unfolding(crate::specs::Codes::modifier, crate::specs::Codes::modifier_bit))]
     pub fn as_modifier_bit(code: u8) -> u8
         ensures { result ≡ modifier_bit code }

@@ -1,32 +1,35 @@
 -- Laws of the events between two pictures, and of their bytes in a buffer. Assumes nothing.
-use Prim.Native.Nat.{ℕ, ◌+◌, ◌*◌, ◌<◌, ◌≤◌}
-use mathlib.Core.Bool.{Bool, true, false}
+use Prim.Native.Nat.{ℕ, zero, suc, ◌+◌, ◌*◌, ◌<◌}
 use mathlib.Core.List.{List, [], ◌∷◌, ◌++◌, append_assoc, append-nil}
 use mathlib.Core.Path.{◌≡◌, refl, sym, ap, ◌∙◌}
 use native.Mathlib.Numerals.{add-one}
+use Rattle.std.proofs.Common.{zero-add}
 use native.Mathlib.Omega.{arith}
-use lib.Dec.{eqb}
-use lib.ListN.{length, take, drop, get_or, length-append, drop_of_length-le}
-use lib.Seq.{drop-cons, drop-drop, length-take-le, sets, sets-eq, length-sets, take_at, drop_at}
+use borrow.Author.Tests.{eq-eqb, ne_eqb}
+use lib.ListN.{length, take, drop, get_or, length-append}
+use lib.Seq.{drop-drop, take_at, drop_at}
+use Rattle.lists.specs.Lists.{laid}
 use Rattle.event.specs.declared.Event.{Event}
 use Rattle.event.specs.declared.Event.TheVariants.{Release, Press}
 use Rattle.event.specs.Bytes.{bytes_of}
-use Rattle.debounce.specs.Events.{change_at, changes, written}
+use Rattle.debounce.specs.Events.{event_at, change_at, changes, written}
+use Rattle.debounce.specs.Inside.{WrittenTo}
 
--- from a place on: what changed there, and then from the next place on
-pub changes_on : (columns place : ℕ) (before after : List ℕ) → place < length before → place < length after
-    → changes columns place (drop place before) (drop place after)
-    ≡ change_at columns place (get_or before place 0) (get_or after place 0) ++ changes columns (place + 1) (drop (place + 1) before) (drop (place + 1) after)
+-- the events of one place more
+changes_more : (columns from n : ℕ) (before after : List ℕ) → n < length before → n < length after
+    → changes columns from (take (suc n) before) (take (suc n) after)
+    ≡ changes columns from (take n before) (take n after) ++ change_at columns (from + n) (get_or before n 0) (get_or after n 0)
 unfolding changes
-changes_on columns place before after h g =
-    rw (drop-cons before place 0, drop-cons after place 0)
-    (ap (λ (k : ℕ). change_at columns place (get_or before place 0) (get_or after place 0) ++ changes columns (place + 1) (drop k before) (drop k after)) (sym (add-one place)))
+changes_more columns from n [] after h g = absurd (omega arith)
+changes_more columns from n (was ∷ before) [] h g = absurd (omega arith)
+changes_more columns from zero (was ∷ before) (is ∷ after) h g =
+    let k : from + 0 ≡ from = omega arith in
+    rw (k, append-nil) refl
+changes_more columns from (suc n) (was ∷ before) (is ∷ after) h g =
+    let k : from + 1 + n ≡ from + suc n = omega arith in
+    rw (changes_more columns (from + 1) n before after (omega arith) (omega arith), k) (sym (append_assoc (change_at columns from was is) _ _))
 
-pub changes_none : (columns place : ℕ) (before after : List ℕ) → length before ≤ place → changes columns place (drop place before) after ≡ []
-unfolding changes
-changes_none columns place before after h = rw (drop_of_length-le before h)
-
-pub written_append : (xs ys : List Event) → written (xs ++ ys) ≡ written xs ++ written ys
+written_append : (xs ys : List Event) → written (xs ++ ys) ≡ written xs ++ written ys
 unfolding written
 written_append [] ys = refl
 written_append (e ∷ xs) ys = rw (written_append xs ys, append_assoc)
@@ -35,62 +38,41 @@ three_bytes : (e : Event) → length (bytes_of e) ≡ 3
 three_bytes (Release i j) = refl
 three_bytes (Press i j) = refl
 
-pub length_written : (es : List Event) → length (written es) ≡ 3 * length es
+length_written : (es : List Event) → length (written es) ≡ 3 * length es
 unfolding written
 length_written [] = refl
 length_written (e ∷ es) = omega (arith, length-append (bytes_of e) (written es), three_bytes e, length_written es)
 
-pub empty_written : (l : List ℕ) → l ++ written [] ≡ l
-unfolding written
-empty_written l = append-nil l
+-- bytes behind those that are laid over a buffer
+laid_more : (bytes more buffer : List ℕ) (k m : ℕ) → length bytes ≡ k → length more ≡ m
+    → take k (laid bytes buffer) ++ more ++ drop (k + m) (laid bytes buffer) ≡ laid (bytes ++ more) buffer
+laid_more bytes more buffer k m e f =
+    let past : drop (k + m) (laid bytes buffer) ≡ drop (k + m) buffer =
+    sym (drop-drop m k (laid bytes buffer)) ∙ ap (λ (l : List ℕ). drop m l) (drop_at bytes (drop (length bytes) buffer) k e ∙ ap (λ (n : ℕ). drop n buffer) e) ∙ drop-drop m k buffer in
+    let long : length (bytes ++ more) ≡ k + m = omega (arith, length-append bytes more) in
+    rw (past, take_at bytes (drop (length bytes) buffer) k e, long) refl
 
-pub change_few : (columns place was is : ℕ) → length (change_at columns place was is) ≤ 1
-unfolding change_at
-change_few columns place was is = go (eqb was is) refl
-  where
-    go : (same : Bool) → eqb was is ≡ same → length (change_at columns place was is) ≤ 1
-    go true e = rw e (omega arith)
-    go false e = rw e (omega arith)
+module _ (columns place count : ℕ) (before after buffer out : List ℕ) (h : place < length before) (g : place < length after) where
+  -- the events up to a place stand in the buffer: with it, where the switch is as it was
+  pub told_same : get_or before place 0 ≡ get_or after place 0
+      → WrittenTo buffer (changes columns 0 (take place before) (take place after)) count out
+      → WrittenTo buffer (changes columns 0 (take (place + 1) before) (take (place + 1) after)) count out
+  unfolding change_at
+  told_same e w = rw (add-one, changes_more columns 0 place before after h g, eq-eqb _ _ e, append-nil) w
 
--- bytes behind those that stand in the buffer: what is still to come follows them, and past them the buffer is as it was
-pub put_behind : (out out₀ bytes rest all : List ℕ) (k : ℕ) → k + length bytes ≤ length out → take k out ++ (bytes ++ rest) ≡ all → drop k out ≡ drop k out₀
-    → (take (k + length bytes) (sets out k bytes) ++ rest ≡ all) × (drop (k + length bytes) (sets out k bytes) ≡ drop (k + length bytes) out₀)
-put_behind out out₀ bytes rest all k room so_far past =
-    let long : length (take k out ++ bytes) ≡ k + length bytes = omega (arith, length-append (take k out) bytes, length-take-le k out (omega arith)) in
-    rw (
-      sets-eq bytes out k room,
-      take_at (take k out ++ bytes) (drop (k + length bytes) out) (k + length bytes) long,
-      drop_at (take k out ++ bytes) (drop (k + length bytes) out) (k + length bytes) long,
-    ) (
-      append_assoc (take k out) bytes rest ∙ so_far,
-      sym (drop-drop (length bytes) k out) ∙ ap (λ (l : List ℕ). drop (length bytes) l) past ∙ drop-drop (length bytes) k out₀,
-    )
-
--- one turn of the loop that tells the events: the place's event, if any, behind those that stand in the buffer
-pub tell_turn : (columns place count more : ℕ) (before after out out₀ out' : List ℕ) (all : List Event)
-    → place < length before → place < length after → count ≤ place → 3 * count + 3 ≤ length out → length out ≡ length out₀
-    → count + length (changes columns place (drop place before) (drop place after)) ≡ length all
-    → take (3 * count) out ++ written (changes columns place (drop place before) (drop place after)) ≡ written all
-    → drop (3 * count) out ≡ drop (3 * count) out₀
-    → more ≡ count + length (change_at columns place (get_or before place 0) (get_or after place 0))
-    → out' ≡ sets out (3 * count) (written (change_at columns place (get_or before place 0) (get_or after place 0)))
-    → (more ≤ place + 1) × (length out' ≡ length out₀)
-    × (more + length (changes columns (place + 1) (drop (place + 1) before) (drop (place + 1) after)) ≡ length all)
-    × (take (3 * more) out' ++ written (changes columns (place + 1) (drop (place + 1) before) (drop (place + 1) after)) ≡ written all)
-    × (drop (3 * more) out' ≡ drop (3 * more) out₀)
-tell_turn columns place count more before after out out₀ out' all in-before in_after few room same-long many so_far past is put =
-    let change = change_at columns place (get_or before place 0) (get_or after place 0) in
-    let rest = changes columns (place + 1) (drop (place + 1) before) (drop (place + 1) after) in
-    let split = changes_on columns place before after in-before in_after in
-    let one = change_few columns place (get_or before place 0) (get_or after place 0) in
-    let long = length_written change in
-    let end : 3 * more ≡ 3 * count + length (written change) = omega arith in
-    let so-far' : take (3 * count) out ++ (written change ++ written rest) ≡ written all =
-    sym (ap (λ (es : List Event). take (3 * count) out ++ written es) split ∙ rw (written_append change rest)) ∙ so_far in
-    let behind = put_behind out out₀ (written change) (written rest) (written all) (3 * count) (omega arith) so-far' past in (
-      omega arith,
-      ap length put ∙ length-sets out (3 * count) (written change) ∙ same-long,
-      omega (arith, ap (λ (es : List Event). length es) split, length-append change rest),
-      rw (put, end) behind.0,
-      rw (put, end) behind.1,
-    )
+  -- and where it differs, once its event stands behind the others
+  pub told_more : (get_or before place 0 ≡ get_or after place 0 → ⊥)
+      → WrittenTo buffer (changes columns 0 (take place before) (take place after)) count out
+      → WrittenTo buffer (changes columns 0 (take (place + 1) before) (take (place + 1) after)) (count + 1)
+      (take (3 * count) out ++ bytes_of (event_at columns place (get_or after place 0)) ++ drop (3 * count + 3) out)
+  unfolding change_at written
+  told_more n w =
+      let es = changes columns 0 (take place before) (take place after) in
+      let e = event_at columns place (get_or after place 0) in
+      let now : changes columns 0 (take (place + 1) before) (take (place + 1) after) ≡ es ++ (e ∷ []) =
+      rw (add-one, changes_more columns 0 place before after h g, zero-add, ne_eqb _ _ n) refl in
+      let bytes : written (es ++ (e ∷ [])) ≡ written es ++ bytes_of e = written_append es (e ∷ []) ∙ rw append-nil refl in
+      rw (now, bytes) (
+        omega (arith, w.0, length-append es (e ∷ [])),
+        rw w.1 (laid_more (written es) (bytes_of e) buffer (3 * count) 3 (omega (arith, length_written es, w.0)) (three_bytes e)),
+      )

@@ -4,21 +4,35 @@ use mathlib.Core.Bool.{Bool, true, false}
 use mathlib.Core.List.{List}
 use mathlib.Core.Path.{◌≡◌, refl}
 use native.Mathlib.Omega.{arith}
-use borrow.Author.Tests.{le-leb, ltb-false}
-use lib.Dec.{ltb, eqb}
+use borrow.Author.Tests.{le-leb, leb-true, ltb-false}
+use lib.Dec.{leb, ltb, eqb}
 use lib.ListN.{length, replicate}
 use lib.Seq.{take_at, drop_at}
 use Rattle.lists.specs.Lists.{alike, every}
 use Rattle.lists.proofs.Laws.{both_true, every_replicate}
 use Rattle.debounce.specs.Picture.{padded, binary, unused, is_picture, is_scan}
 use Rattle.debounce.specs.Step as filter
-use Rattle.refusal.specs.Verdict.{rule}
+use Rattle.refusal.specs.Verdict.{rule, fine, granted}
+use Rattle.refusal.specs.Said.{said}
 use Rattle.refusal.specs.declared.Refusal.TheVariants.{Scan, Bounce}
-use Rattle.debounce.specs.Calls.{switches, sizes_good, bounce_good, state_good, making_verdict, if_fine, started, refused_making, new_reply, pictures_of, with_pictures, scanned}
+use Rattle.debounce.specs.Calls.{switches, sizes_good, bounce_good, state_good, making_verdict, started, refused_making, new_reply, pictures_of, with_pictures, scanned}
 use Rattle.debounce.specs.declared.Debouncer.{Debouncer}
-use Rattle.refusal.specs.declared.Verdict.TheVariants.{Fine}
-use Rattle.debounce.proofs.States.{Legal, legal, scan_long}
-use Rattle.refusal.proofs.Said.{values_back}
+use Rattle.debounce.proofs.Laws.{scan_long}
+
+-- a legal debouncer, part by part
+record Legal (d : Debouncer) : Type 0 where
+  sizes : bounce_good d.rows d.columns d.nb_bounce ≡ true
+  since_low : d.since ≤ d.nb_bounce
+  accepted : is_picture (switches d) d.cur ≡ true
+  candidate : is_picture (switches d) d.new ≡ true
+
+legal : (d : Debouncer) → state_good d ≡ true → Legal d
+unfolding state_good
+legal d e =
+    let b = both_true (bounce_good d.rows d.columns d.nb_bounce) _ e in
+    let s = both_true (leb d.since d.nb_bounce) _ b.1 in
+    let p = both_true (is_picture (switches d) d.cur) (is_picture (switches d) d.new) s.1 in
+    record { sizes = b.0; since_low = leb-true d.since d.nb_bounce s.0; accepted = p.0; candidate = p.1 }
 
 -- a scan in its places is a picture
 scan_picture : (n : ℕ) (scan : List ℕ) → is_scan n scan ≡ true → is_picture n (padded scan) ≡ true
@@ -39,8 +53,8 @@ unfolding state_good bounce_good sizes_good is_picture
 refused_legal = refl
 
 made_by : (rows columns nb : ℕ) (start : List ℕ) (b s : Bool) → bounce_good rows columns nb ≡ b → is_scan (rows * columns) start ≡ s
-    → state_good (if_fine (rule b Bounce 0 (rule s Scan 0 Fine)) (started rows columns nb start) refused_making) ≡ true
-unfolding if_fine rule
+    → state_good (said refused_making (granted (rule b Bounce 0 (rule s Scan 0 fine)) (started rows columns nb start))).values ≡ true
+unfolding rule
 made_by rows columns nb start true true e f =
     let picture = scan_picture (rows * columns) start f in
     state_of _ e (omega arith) picture picture
@@ -50,9 +64,7 @@ made_by rows columns nb start false s e f = refused_legal
 -- a debouncer that is made, refused or not, is legal
 pub made_legal : (rows columns nb : ℕ) (start : List ℕ) → state_good (new_reply rows columns nb start).values ≡ true
 unfolding making_verdict
-made_legal rows columns nb start =
-    rw (values_back (making_verdict rows columns nb start) _)
-    (made_by rows columns nb start (bounce_good rows columns nb) (is_scan (rows * columns) start) refl refl)
+made_legal rows columns nb start = made_by rows columns nb start (bounce_good rows columns nb) (is_scan (rows * columns) start) refl refl
 
 -- both are pictures of the debouncer's switches
 BothGood : Debouncer → filter.Pictures (List ℕ) → Type 0

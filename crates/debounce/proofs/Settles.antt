@@ -9,28 +9,27 @@ use native.Mathlib.Omega.{arith}
 use borrow.Author.Tests.{le-leb, lt-ltb, le-ltb}
 use lib.ListN.{length}
 use Rattle.refusal.specs.Verdict.{rule}
-use Rattle.refusal.specs.Said.{Said, said}
+use Rattle.refusal.specs.Said.{Said}
 use Rattle.lists.specs.Lists.{alike, laid}
 use Rattle.lists.proofs.Laws.{alike_is, alike_self, alike_not}
 use Rattle.debounce.specs.Picture.{padded, is_scan}
 use Rattle.debounce.specs.Step as filter
 use Rattle.debounce.specs.Events.{written}
-use Rattle.debounce.specs.Calls.{switches, state_good, update_verdict, events_verdict, if_fine, pictures_of, with_pictures, step_of, scanned, events_of, Reply, update_reply, events_reply}
+use Rattle.debounce.specs.Calls.{switches, state_good, update_verdict, events_verdict, if_fine, accepted, pictures_of, with_pictures, step_of, scanned, events_of, Reply, update_reply, events_reply}
 use Rattle.debounce.specs.Settles.{after_scans, Fresh, standing, changed_to, events_to, SettlesAll}
 use Rattle.debounce.specs.declared.Debouncer.{Debouncer}
-use Rattle.refusal.specs.declared.Verdict.TheVariants.{Fine}
 use Rattle.debounce.proofs.Runs.{step_legal}
 
 -- what a scan that is not refused answers
 update_is : (d : Debouncer) (scan : List ℕ) → state_good d ≡ true → is_scan (switches d) scan ≡ true
-    → update_reply d scan ≡ said Fine ((step_of d scan).changed, scanned d scan)
+    → update_reply d scan ≡ accepted ((step_of d scan).changed, scanned d scan)
 unfolding if_fine update_verdict rule
 update_is d scan s f = rw (s, f)
 
 -- and what `events` hands back, by the step
 abbrev reply : Debouncer → filter.Outcome (List ℕ) → List ℕ → Reply
 reply d o buffer =
-    record { answer = said Fine (length (events_of d o), with_pictures d o.pictures); buffer = laid (written (events_of d o)) buffer }
+    record { answer = accepted (length (events_of d o), with_pictures d o.pictures); buffer = laid (written (events_of d o)) buffer }
 
 events_is : (d : Debouncer) (scan buffer : List ℕ) → state_good d ≡ true → is_scan (switches d) scan ≡ true → 3 * switches d ≤ length buffer
     → events_reply d scan buffer ≡ reply d (step_of d scan) buffer
@@ -75,15 +74,15 @@ module _ (d : Debouncer) (scan : List ℕ) (fresh : Fresh d scan) where
       sym (ap (λ (o : filter.Outcome (List ℕ)). state_good (with_pictures d o.pictures)) (step_low n (omega arith)))
       ∙ step_legal (with_pictures d (stood n)) scan (legal_at n (omega arith)) fresh.fits
 
-  low_is : (n : ℕ) → n < d.nb_bounce → update_reply (with_pictures d (stood n)) scan ≡ said Fine (false, standing d scan (n + 1))
+  low_is : (n : ℕ) → n < d.nb_bounce → update_reply (with_pictures d (stood n)) scan ≡ accepted (false, standing d scan (n + 1))
   low_is n low =
       update_is (with_pictures d (stood n)) scan (legal_at n (omega arith)) fresh.fits
-      ∙ ap (λ (o : filter.Outcome (List ℕ)). said Fine (o.changed, with_pictures d o.pictures)) (step_low n low)
+      ∙ ap (λ (o : filter.Outcome (List ℕ)). accepted (o.changed, with_pictures d o.pictures)) (step_low n low)
 
-  last_is : update_reply (with_pictures d (stood d.nb_bounce)) scan ≡ said Fine (true, changed_to d scan)
+  last_is : update_reply (with_pictures d (stood d.nb_bounce)) scan ≡ accepted (true, changed_to d scan)
   last_is =
       update_is (with_pictures d (stood d.nb_bounce)) scan (legal_at d.nb_bounce (omega arith)) fresh.fits
-      ∙ ap (λ (o : filter.Outcome (List ℕ)). said Fine (o.changed, with_pictures d o.pictures)) step_last
+      ∙ ap (λ (o : filter.Outcome (List ℕ)). accepted (o.changed, with_pictures d o.pictures)) step_last
 
   after_is : (n : ℕ) → n ≤ d.nb_bounce → after_scans n d scan ≡ with_pictures d (stood n)
   unfolding after_scans
@@ -93,7 +92,7 @@ module _ (d : Debouncer) (scan : List ℕ) (fresh : Fresh d scan) where
       ∙ ap (λ (s : Said (Bool × Debouncer)). s.values.1) (low_is n (omega arith))
 
   none_told : (n : ℕ) → n < d.nb_bounce → (buffer : List ℕ) → 3 * switches d ≤ length buffer
-      → events_reply (with_pictures d (stood n)) scan buffer ≡ record { answer = said Fine (0, standing d scan (n + 1)); buffer = buffer }
+      → events_reply (with_pictures d (stood n)) scan buffer ≡ record { answer = accepted (0, standing d scan (n + 1)); buffer = buffer }
   unfolding events_of written
   none_told n low buffer room =
       events_is (with_pictures d (stood n)) scan buffer (legal_at n (omega arith)) fresh.fits room
@@ -101,7 +100,7 @@ module _ (d : Debouncer) (scan : List ℕ) (fresh : Fresh d scan) where
 
   last_told : (buffer : List ℕ) → 3 * switches d ≤ length buffer
       → events_reply (with_pictures d (stood d.nb_bounce)) scan buffer
-      ≡ record { answer = said Fine (length (events_to d scan), changed_to d scan); buffer = laid (written (events_to d scan)) buffer }
+      ≡ record { answer = accepted (length (events_to d scan), changed_to d scan); buffer = laid (written (events_to d scan)) buffer }
   unfolding events_of
   last_told buffer room =
       events_is (with_pictures d (stood d.nb_bounce)) scan buffer (legal_at d.nb_bounce (omega arith)) fresh.fits room

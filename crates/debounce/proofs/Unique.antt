@@ -7,8 +7,6 @@ use Rattle.debounce.specs.contracts.Debouncer.new as N
 use Rattle.debounce.specs.contracts.Debouncer.get as G
 use Rattle.debounce.specs.contracts.Debouncer.update as U
 use Rattle.debounce.specs.contracts.Debouncer.events as E
-use Rattle.debounce.specs.contracts.Update.told as C
-use Rattle.debounce.specs.contracts.Telling.told as T
 
 pub new : Decides N.ended (λ M 𝓤 𝓛. N.spec 𝓛) (λ M 𝓤 𝓛. N.clauses 𝓛)
 new M 𝓤 𝓛 m r = record { same = refl; free = λ κs a g. refl; only = λ κs a g g' x x' ws ws'. both 𝓤 _ _ _ (λ p q. (made_one _ _ (p ∙ sym q), refl)) }
@@ -21,9 +19,3 @@ update M 𝓤 𝓛 m r = record { same = refl; free = λ κs a g. refl; only = �
 
 pub events : Decides E.ended (λ M 𝓤 𝓛. E.spec 𝓛) (λ M 𝓤 𝓛. E.clauses 𝓛)
 events M 𝓤 𝓛 m r = record { same = refl; free = λ κs a g. refl; only = λ κs a g g' x x' ws ws'. both 𝓤 _ _ _ (λ p q. let h = handed_one _ _ _ _ (p ∙ sym q) in (h.0, ap (λ w. (tt, (tt, (w, tt)))) h.1)) }
-
-pub change : Decides C.ended (λ M 𝓤 𝓛. C.spec 𝓛) (λ M 𝓤 𝓛. C.clauses 𝓛)
-change M 𝓤 𝓛 m r = record { same = refl; free = λ κs a g. refl; only = λ κs a g g' x x' ws ws'. both 𝓤 _ _ _ (λ p q. (p ∙ sym q, refl)) }
-
-pub count : Decides T.ended (λ M 𝓤 𝓛. T.spec 𝓛) (λ M 𝓤 𝓛. T.clauses 𝓛)
-count M 𝓤 𝓛 m r = record { same = refl; free = λ κs a g. refl; only = λ κs a g g' x x' ws ws'. both 𝓤 _ _ _ (λ p q. (p ∙ sym q, refl)) }

@@ -1,11 +1,10 @@
 -- What each call answers: document 01, Debounce, and the refusals 10 to 13 in the order that "Refusal numbers" gives.
 -- Assumes nothing.
-use Rattle.std.specs.Prelude.{ℕ, ◌*◌, Bool, false, cond, ◌&&◌, List, [], leb, ltb, length, take}
-use Rattle.refusal.specs.Verdict.{rule}
+use Rattle.std.specs.Prelude.{ℕ, ◌*◌, Bool, false, cond, ◌&&◌, List, [], leb, ltb, length, take, Result, Ok, Err}
+use Rattle.refusal.specs.Verdict.{Verdict, fine, rule, granted}
 use Rattle.refusal.specs.Said.{Said, said}
 use Rattle.refusal.specs.declared.Refusal.TheVariants.{Scan, Bounce, Room, State}
-use Rattle.refusal.specs.declared.Verdict.{Verdict}
-use Rattle.refusal.specs.declared.Verdict.TheVariants.{Fine, Refused}
+use Rattle.refusal.specs.declared.Fault.{Fault}
 use Rattle.event.specs.declared.Event.{Event}
 use Rattle.lists.specs.Lists.{alike, laid}
 use Rattle.debounce.specs.Picture.{all_up, padded, is_picture, is_scan}
@@ -13,15 +12,8 @@ use Rattle.debounce.specs.Step as filter
 use Rattle.debounce.specs.Events.{changes, written}
 use Rattle.debounce.specs.declared.Debouncer.{Debouncer}
 use Rattle.debounce.specs.declared.Made.{Made}
-use Rattle.debounce.specs.declared.Got.{Got}
-use Rattle.debounce.specs.declared.Update.{Update}
-use Rattle.debounce.specs.declared.Update.TheVariants as update
 use Rattle.debounce.specs.declared.Updated.{Updated}
-use Rattle.debounce.specs.declared.Telling.{Telling}
-use Rattle.debounce.specs.declared.Telling.TheVariants as telling
 use Rattle.debounce.specs.declared.Answered.{Answered}
-use Rattle.debounce.specs.declared.Change.{Change}
-use Rattle.debounce.specs.declared.Count.{Count}
 
 -- the number of switches
 abbrev pub switches : Debouncer → ℕ
@@ -43,50 +35,36 @@ state_good d =
 
 -- making: Bounce, then the start picture for Scan. Every refusal of a debouncer names place 0
 unfoldable pub making_verdict : ℕ → ℕ → ℕ → List ℕ → Verdict
-making_verdict rows columns nb start = rule (bounce_good rows columns nb) Bounce 0 (rule (is_scan (rows * columns) start) Scan 0 Fine)
+making_verdict rows columns nb start = rule (bounce_good rows columns nb) Bounce 0 (rule (is_scan (rows * columns) start) Scan 0 fine)
 
 -- `get`: State. `update`: State, Scan. `events`: State, Scan, Room
 unfoldable pub get_verdict : Debouncer → Verdict
-get_verdict d = rule (state_good d) State 0 Fine
+get_verdict d = rule (state_good d) State 0 fine
 
 unfoldable pub update_verdict : Debouncer → List ℕ → Verdict
-update_verdict d scan = rule (state_good d) State 0 (rule (is_scan (switches d) scan) Scan 0 Fine)
+update_verdict d scan = rule (state_good d) State 0 (rule (is_scan (switches d) scan) Scan 0 fine)
 
 unfoldable pub events_verdict : Debouncer → List ℕ → ℕ → Verdict
 events_verdict d scan room =
-    rule (state_good d) State 0 (rule (is_scan (switches d) scan) Scan 0 (rule (leb (3 * switches d) room) Room 0 Fine))
+    rule (state_good d) State 0 (rule (is_scan (switches d) scan) Scan 0 (rule (leb (3 * switches d) room) Room 0 fine))
 
--- what is said of each answer, case by case: its number, its place and its values. A refused change is no, a refused count 0
-abbrev pub made_said : Made → Said Debouncer
-made_said m = said m.verdict m.debouncer
-
-abbrev pub got_said : Got → Said (List ℕ)
-got_said g = said g.verdict g.picture
-
-abbrev pub change_said : Update → Said Bool
-change_said (update.Changed changed) = said Fine changed
-change_said (update.Refused refusal) = said (Refused refusal 0) false
-
-abbrev pub count_said : Telling → Said ℕ
-count_said (telling.Events count) = said Fine count
-count_said (telling.Refused refusal) = said (Refused refusal 0) 0
-
--- with the debouncer that is handed on
+-- what is said of an answer, with the debouncer that is handed on
 abbrev pub beside : {A B : Type 0} → Said A → B → Said (A × B)
 beside s b = record { number = s.number; place = s.place; values = (s.values, b) }
 
+-- what is said of each answer: its number, its place and its values. Of a refused one the picture is all up, the change no and the
+-- count 0
+abbrev pub made_said : Made → Said Debouncer
+made_said m = let s = said tt m.answer in record { number = s.number; place = s.place; values = m.debouncer }
+
+abbrev pub got_said : Result (List ℕ) Fault → Said (List ℕ)
+got_said = said all_up
+
 abbrev pub updated_said : Updated → Said (Bool × Debouncer)
-updated_said u = beside (change_said u.update) u.debouncer
+updated_said u = beside (said false u.answer) u.debouncer
 
 abbrev pub answered_said : Answered → Said (ℕ × Debouncer)
-answered_said a = beside (count_said a.telling) a.debouncer
-
--- as a program prints them
-abbrev pub change_of : Update → Change
-change_of u = let s = change_said u in record { number = s.number; place = s.place; changed = s.values }
-
-abbrev pub count_of : Telling → Count
-count_of t = let s = count_said t in record { number = s.number; place = s.place; count = s.values }
+answered_said a = beside (said 0 a.answer) a.debouncer
 
 -- what a call to `events` hands back: what is said of its answer, and the buffer that it was lent
 pub record Reply : Type 0 where
@@ -98,11 +76,15 @@ handed a buffer = record { answer = answered_said a; buffer = buffer }
 
 -- where nothing is refused the first, else the second; and what is said of a call that gives the first or the second
 unfoldable pub if_fine : {A : Type 0} → Verdict → A → A → A
-if_fine Fine given none = given
-if_fine (Refused refusal place) given none = none
+if_fine (Ok u) given none = given
+if_fine (Err fault) given none = none
 
 abbrev pub said_by : {A : Type 0} → Verdict → A → A → Said A
-said_by verdict given none = said verdict (if_fine verdict given none)
+said_by verdict given none = said none (granted verdict given)
+
+-- what is said of a call that is not refused
+abbrev pub accepted : {A : Type 0} → A → Said A
+accepted values = said values (Ok values)
 
 -- a debouncer that is made, and the all-up 1 by 1 one with nb_bounce 0 that a refused making gives
 abbrev pub started : ℕ → ℕ → ℕ → List ℕ → Debouncer

@@ -1,77 +1,48 @@
 // The events of a change, written to a lent buffer, three bytes each. Document 01, Debounce, last sentence.
 // Every number here is small: a place is below 128, and 3 bytes an event come to 384.
 // Assumes nothing.
-ghost use Rattle.std.specs.Prelude.{◌≡◌, ◌+◌, ◌*◌, ◌≤◌, ◌<◌, length, take};
-ghost use Rattle.std.proofs.lemmas.List.Edits.{sets};
+ghost use Rattle.std.specs.Prelude.{◌≡◌, ◌+◌, ◌*◌, ◌≤◌, length, take, drop, ◌++◌};
 ghost use Rattle.event.specs.Bytes.{bytes_of};
-ghost use Rattle.debounce.specs.Events.{event_at, change_at, changes};
-ghost use Rattle.debounce.specs.Inside.{events_in, AddedTo, WrittenTo, RoomFor};
+ghost use Rattle.debounce.specs.Inside.{events_between, events_in, WrittenTo};
 
 use super::Step;
-use super::verdicts::switches;
+use super::sizes::Sizes;
 use event::Event;
-
-// The event of the switch at a place, which now is so.
-fn event_at(columns: usize, place: usize, is: u8) -> Event
-    requires { (0 < columns) × (columns ≤ 16) × (place < 128) }
-    ensures { result ≡ event_at columns place is }
-{
-    let i = (place / columns) as u8;
-    let j = (place % columns) as u8;
-    if is == 0 {
-        return Event::Release(i, j);
-    }
-    Event::Press(i, j)
-}
 
 // An event's three bytes, at a place of the buffer.
 fn put_event(out: &mut [u8], at: usize, event: Event)
-    requires { (at < 384) × (at + 3 ≤ length out.old) }
-    ensures { out.new ≡ sets out.old at (bytes_of event) }
+    requires { at + 3 ≤ length out.old }
+    ensures { out.new ≡ take at out.old ++ bytes_of event ++ drop (at + 3) out.old }
 {
-    let b = event.bytes();
-    out[at] = b[0];
-    out[at + 1] = b[1];
-    out[at + 2] = b[2];
+    out[at..at + 3].copy_from_slice(&<[u8; 3]>::from(event));
 }
 
-// Where a switch differs, one event more behind the `count` that stand in the buffer.
-fn tell_place(was: u8, is: u8, columns: usize, place: usize, out: &mut [u8], count: usize) -> usize
-    requires { (0 < columns) × (columns ≤ 16) × (place < 128) × (count < 128) × (3 * count + 3 ≤ length out.old) }
-    ensures { AddedTo out.old count (change_at columns place was is) result out.new }
-{
-    if was == is {
-        return count;
+impl Sizes {
+    // The events between two pictures, from the start of the buffer on; and how many.
+    fn tell(self, before: [u8; 128], after: [u8; 128], out: &mut [u8]) -> usize
+        requires { 3 * (self.rows * self.columns) ≤ length out.old }
+        ensures { WrittenTo out.old (events_between self.columns (self.rows * self.columns) before after) result out.new }
+    {
+        let mut count = 0;
+        for place in 0..self.switches() {
+            let is = after[place];
+            if before[place] != is {
+                put_event(out, 3 * count, self.event_at(place, is));
+                count += 1;
+            }
+        }
+        count
     }
-    put_event(out, 3 * count, event_at(columns, place, is));
-    count + 1
-}
 
-// The events between two pictures of n switches, from the start of the buffer on; and how many.
-fn tell(before: [u8; 128], after: [u8; 128], n: usize, columns: usize, out: &mut [u8]) -> usize
-    requires { (n ≤ 128) × (0 < columns) × (columns ≤ 16) × (3 * n ≤ length out.old) }
-    ensures { WrittenTo out.old (changes columns 0 (take n before) (take n after)) result out.new }
-{
-    let mut count = 0;
-    let mut place = 0;
-    while place < n {
-        count = tell_place(before[place], after[place], columns, place, out, count);
-        place += 1;
+    // The events of a step, in the buffer, and how many.
+    #[tactic(auto, unfolding(crate::specs::Events::written))]
+    pub(crate) fn tell_step(self, step: Step, out: &mut [u8]) -> usize
+        requires { 3 * (self.rows * self.columns) ≤ length out.old }
+        ensures { WrittenTo out.old (events_in step self.columns (self.rows * self.columns)) result out.new }
+    {
+        if !step.changed {
+            return 0;
+        }
+        self.tell(step.debouncer.new, step.debouncer.cur, out)
     }
-    count
-}
-
-// The events of a step, in the buffer, and how many.
-pub(crate) fn tell_step(step: Step, out: &mut [u8]) -> usize
-    requires { RoomFor step.debouncer (length out.old) }
-    ensures { WrittenTo out.old (events_in step) result out.new }
-{
-    if !step.changed {
-        return 0;
-    }
-    let debouncer = step.debouncer;
-    let before = debouncer.new;
-    let after = debouncer.cur;
-    let n = switches(debouncer.rows, debouncer.columns);
-    tell(before, after, n, debouncer.columns, out)
 }

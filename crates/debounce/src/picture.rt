@@ -1,66 +1,63 @@
 // Pictures and scans: a byte a switch in 128 places, and the tests on them. Document 01, Debounce.
 // Assumes nothing.
-ghost use Rattle.std.specs.Prelude.{◌≡◌, ◌≤◌, length, take};
+ghost use Rattle.std.specs.Prelude.{◌≡◌, ◌*◌, ◌≤◌, length, true};
 ghost use Rattle.lists.specs.Lists.{alike, every};
 ghost use Rattle.debounce.specs.Picture.{padded, is_picture, is_scan};
 ghost use Rattle.debounce.specs.Inside.{at_most};
 
-// Whether each place is at most so much. This loop and the next go to the end whatever they find, so that the compiler can
-// take many places at once.
+use super::sizes::Sizes;
+
+// Whether each place is at most so much. The loop goes to the end whatever it finds, so that the compiler can take many places
+// at once: `all`, which stops, takes ten times the instructions.
 fn are_at_most(places: &[u8], most: u8) -> bool
     ensures { result ≡ every (at_most most) places.now }
 {
     let mut good = true;
-    let mut i = 0;
-    while i < places.len() {
-        if most < places[i] {
-            good = false;
-        }
-        i += 1;
+    for place in places {
+        good &= *place <= most;
     }
     good
 }
 
+// Whether two pictures are equal, in the same way. `==` is a call, for which the debouncer is copied: with it a scan takes
+// three times the instructions.
+#[tactic(auto, using(crate::proofs::Laws::alike_more))]
 pub(crate) fn are_alike(a: &[u8], b: &[u8]) -> bool
     requires { length a.now ≡ length b.now }
     ensures { result ≡ alike a.now b.now }
 {
-    let mut good = true;
-    let mut i = 0;
-    while i < a.len() {
-        if a[i] != b[i] {
-            good = false;
-        }
-        i += 1;
+    let mut same = true;
+    for (u, v) in a.iter().zip(b) {
+        same &= *u == *v;
     }
-    good
+    same
 }
 
-// A scan in its 128 places; what is past them is left out.
+// A scan in 128 places.
 pub(crate) fn pad(scan: &[u8]) -> [u8; 128]
-    ensures { result ≡ padded (take 128 scan.now) }
+    requires { length scan.now ≤ 128 }
+    ensures { result ≡ padded scan.now }
 {
-    let mut places = [0u8; 128];
-    let mut i = 0;
-    while i < scan.len() && i < 128 {
-        places[i] = scan[i];
-        i += 1;
-    }
+    let mut places = [0; 128];
+    places[..scan.len()].copy_from_slice(scan);
     places
 }
 
-// Once the places past n are 0, all 128 tell of the first n. A fixed number of places takes fewer steps than n do.
-pub(crate) fn is_picture(places: [u8; 128], n: usize) -> bool
-    requires { n ≤ 128 }
-    ensures { result ≡ is_picture n places }
-{
-    are_at_most(&places[n..], 0) && are_at_most(&places, 1)
-}
+impl Sizes {
+    // Once the places past the switches are 0, all 128 tell of the switches. A fixed number of places takes fewer steps than so
+    // many as there are switches.
+    #[tactic(auto, using(crate::proofs::Laws::picture_then, crate::proofs::Laws::picture_else, crate::proofs::Laws::unused_past))]
+    pub(crate) fn is_picture(self, places: [u8; 128]) -> bool
+        ensures { result ≡ is_picture (self.rows * self.columns) places }
+    {
+        are_at_most(&places[self.switches()..], 0) && are_at_most(&places, 1)
+    }
 
-// Told by the scan's places, for the same reason.
-pub(crate) fn is_scan(scan: &[u8], places: [u8; 128], n: usize) -> bool
-    requires { (n ≤ 128) × (places ≡ padded (take 128 scan.now)) }
-    ensures { result ≡ is_scan n scan.now }
-{
-    scan.len() == n && are_at_most(&places, 1)
+    #[tactic(auto, unfolding(crate::specs::Picture::is_scan))]
+    pub(crate) fn is_scan(self, scan: &[u8]) -> bool
+        ensures is { result ≡ is_scan (self.rows * self.columns) scan.now }
+        ensures few { result ≡ true → length scan.now ≤ 128 }
+    {
+        scan.len() == self.switches() && are_at_most(scan, 1)
+    }
 }

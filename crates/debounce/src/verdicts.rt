@@ -1,101 +1,64 @@
-// Whether a call is refused, and the State check: document 01, "Refusal numbers", 10 to 13.
+// Whether a call is refused: document 01, "Refusal numbers", 10 to 13.
 // Assumes nothing.
-ghost use Rattle.std.specs.Prelude.{◌≡◌, ◌*◌, ◌≤◌, take};
-ghost use Rattle.debounce.specs.Picture.{padded};
-ghost use Rattle.debounce.specs.Calls.{sizes_good, bounce_good, state_good, making_verdict, update_verdict, events_verdict};
+ghost use Rattle.std.specs.Prelude.{◌≡◌, ◌*◌, ◌≤◌, IfOk, length};
+ghost use Rattle.debounce.specs.Calls.{making_verdict, get_verdict, update_verdict, events_verdict};
+ghost use Rattle.debounce.specs.Inside.{verdict_of, is_kept, IsLegal};
 
 use super::Debouncer;
-use super::picture::{is_picture, is_scan};
-use refusal::{Refusal, Verdict};
+use super::sizes::Sizes;
+use refusal::{Fault, Refusal, rule};
 
-fn sizes_good(rows: usize, columns: usize) -> bool
-    ensures { result ≡ sizes_good rows columns }
+#[tactic(auto, unfolding(refusal::specs::Verdict::rule, crate::specs::Calls::making_verdict))]
+pub(crate) fn making(rows: usize, columns: usize, nb_bounce: u16, start: &[u8]) -> Result<(), Fault>
+    ensures verdict { result ≡ making_verdict rows columns nb_bounce start.now }
+    ensures few { IfOk result (λ u. length start.now ≤ 128) }
 {
-    if rows < 1 {
-        return false;
-    }
-    if 8 < rows {
-        return false;
-    }
-    1 <= columns && columns <= 16
+    let sizes = Sizes::of(rows, columns, nb_bounce, Refusal::Bounce)?;
+    rule(sizes.is_scan(start), Refusal::Scan, 0)
 }
 
-fn bounce_good(rows: usize, columns: usize, nb_bounce: u16) -> bool
-    ensures { result ≡ bounce_good rows columns nb_bounce }
-{
-    sizes_good(rows, columns) && nb_bounce < 65535
-}
-
-// The number of switches, at most 128 on a machine of any width: only sizes that are tested are multiplied.
-pub(crate) fn switches(rows: usize, columns: usize) -> usize
-    requires { (rows ≤ 8) × (columns ≤ 16) }
-    ensures { (result ≡ rows * columns) × (result ≤ 128) }
-{
-    rows * columns
-}
-
-pub(crate) fn making_verdict(
-    rows: usize,
-    columns: usize,
-    nb_bounce: u16,
-    start: &[u8],
-    places: [u8; 128],
-) -> Verdict
-    requires { places ≡ padded (take 128 start.now) }
-    ensures { result ≡ making_verdict rows columns nb_bounce start.now }
-{
-    if !bounce_good(rows, columns, nb_bounce) {
-        return Verdict::Refused(Refusal::Bounce, 0);
-    }
-    if !is_scan(start, places, switches(rows, columns)) {
-        return Verdict::Refused(Refusal::Scan, 0);
-    }
-    Verdict::Fine
-}
-
+// The answers have the sizes and not the debouncer or the scan's places, which would be copied at each `?`.
 impl Debouncer {
-    // Whether no part of the state breaks its rule.
-    pub(crate) fn state_good(self) -> bool
-        ensures { result ≡ state_good self }
+    // Whether since and the pictures of a debouncer of these sizes break no rule.
+    fn is_kept(self, sizes: Sizes) -> bool
+        ensures { result ≡ is_kept self (sizes.rows * sizes.columns) }
     {
-        if !bounce_good(self.rows, self.columns, self.nb_bounce) {
-            return false;
-        }
-        if self.nb_bounce < self.since {
-            return false;
-        }
-        let n = switches(self.rows, self.columns);
-        let cur = self.cur;
-        let new = self.new;
-        is_picture(cur, n) && is_picture(new, n)
+        self.since <= self.nb_bounce && sizes.is_picture(self.cur) && sizes.is_picture(self.new)
     }
 
-    pub(crate) fn update_verdict(self, scan: &[u8], places: [u8; 128]) -> Verdict
-        requires { places ≡ padded (take 128 scan.now) }
-        ensures { result ≡ update_verdict self scan.now }
+    // The sizes of a debouncer, where no part of its state breaks its rule.
+    #[tactic(auto, unfolding(refusal::specs::Verdict::rule, crate::specs::Calls::get_verdict, crate::specs::Calls::state_good))]
+    pub(crate) fn legal(self) -> Result<Sizes, Fault>
+        ensures verdict { verdict_of result ≡ get_verdict self }
+        ensures sizes { IfOk result (λ s. IsLegal self s) }
     {
-        if !self.state_good() {
-            return Verdict::Refused(Refusal::State, 0);
-        }
-        if !is_scan(scan, places, switches(self.rows, self.columns)) {
-            return Verdict::Refused(Refusal::Scan, 0);
-        }
-        Verdict::Fine
+        let sizes = Sizes::of(self.rows, self.columns, self.nb_bounce, Refusal::State)?;
+        rule(self.is_kept(sizes), Refusal::State, 0)?;
+        Ok(sizes)
     }
 
-    pub(crate) fn events_verdict(self, scan: &[u8], places: [u8; 128], room: usize) -> Verdict
-        requires { places ≡ padded (take 128 scan.now) }
-        ensures { result ≡ events_verdict self scan.now room }
+    // The same, where a scan fits it.
+    #[tactic(auto, unfolding(refusal::specs::Verdict::rule, crate::specs::Calls::get_verdict, crate::specs::Calls::update_verdict))]
+    pub(crate) fn taken(self, scan: &[u8]) -> Result<Sizes, Fault>
+        ensures verdict { verdict_of result ≡ update_verdict self scan.now }
+        ensures sizes { IfOk result (λ s. IsLegal self s) }
+        ensures few { IfOk result (λ s. length scan.now ≤ 128) }
     {
-        let verdict = self.update_verdict(scan, places);
-        match verdict {
-            Verdict::Fine => {
-                if room < 3 * switches(self.rows, self.columns) {
-                    return Verdict::Refused(Refusal::Room, 0);
-                }
-                Verdict::Fine
-            }
-            Verdict::Refused(refusal, place) => Verdict::Refused(refusal, place),
-        }
+        let sizes = self.legal()?;
+        rule(sizes.is_scan(scan), Refusal::Scan, 0)?;
+        Ok(sizes)
+    }
+
+    // The same, where a buffer has room for an event of each switch.
+    #[tactic(auto, unfolding(refusal::specs::Verdict::rule, crate::specs::Calls::events_verdict, crate::specs::Calls::update_verdict))]
+    pub(crate) fn taken_with_room(self, scan: &[u8], room: usize) -> Result<Sizes, Fault>
+        ensures verdict { verdict_of result ≡ events_verdict self scan.now room }
+        ensures sizes { IfOk result (λ s. IsLegal self s) }
+        ensures few { IfOk result (λ s. length scan.now ≤ 128) }
+        ensures room { IfOk result (λ s. 3 * (s.rows * s.columns) ≤ room) }
+    {
+        let sizes = self.taken(scan)?;
+        rule(3 * sizes.switches() <= room, Refusal::Room, 0)?;
+        Ok(sizes)
     }
 }

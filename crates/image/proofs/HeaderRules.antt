@@ -1,12 +1,12 @@
 -- Laws of the header and of the cells: what their rules say where they are kept.
 -- Assumes nothing.
-use mathlib.Core.Path.{◌≡◌, refl, sym}
+use mathlib.Core.Path.{◌≡◌}
 use mathlib.Core.Bool.{Bool, true}
 use mathlib.Core.List.{List}
 use Prim.Native.Nat.{ℕ, ◌+◌, ◌*◌, ◌^◌, ◌<◌, ◌≤◌}
 use native.Mathlib.Nat.{mul-le-mul, le_of_lt}
 use native.Mathlib.Omega.{arith}
-use borrow.Author.Tests.{leb-true, eqb-true, ltb-true, lt-ltb, le-ltb}
+use borrow.Author.Tests.{leb-true, eqb-true, ltb-true}
 use lib.ListN.{length}
 use lib.Dec.{eqb, leb}
 use Rattle.lists.proofs.Laws.{both_true}
@@ -16,8 +16,8 @@ use Rattle.image.specs.Check.{within, counts_good, offsets_good, header_good, he
 use Rattle.image.specs.Sound.{Framed}
 use Rattle.image.specs.Inside.{Counts}
 use Rattle.image.specs.declared.words.Shape.{Shape}
-use Rattle.refusal.specs.Verdict.{fine, refused}
-use Rattle.refusal.proofs.Verdicts.{rule_no, rule_yes, rule_fine}
+use Rattle.refusal.specs.Verdict.{fine}
+use Rattle.refusal.proofs.Verdicts.{rule_fine}
 
 -- what the header's rules say
 in_range : (lo hi x : ℕ) → within lo hi x ≡ true → (lo ≤ x) × (x ≤ hi)
@@ -74,14 +74,6 @@ framed img e =
     }
 
 -- a cell's rule
-pub cell_bad : (img : List ℕ) (i : ℕ) → records_of img ≤ cell_of img i → cell_fault img i ≡ refused refusal.Cell i
-unfolding cell_fault
-cell_bad img i h = sym (rule_no _ refusal.Cell i fine (le-ltb (cell_of img i) (records_of img) h))
-
-pub cell_fine : (img : List ℕ) (i : ℕ) → cell_of img i < records_of img → cell_fault img i ≡ fine
-unfolding cell_fault
-cell_fine img i h = sym (rule_yes _ refusal.Cell i fine (lt-ltb (cell_of img i) (records_of img) h) refl)
-
 pub cell_kept : (img : List ℕ) (i : ℕ) → cell_fault img i ≡ fine → cell_of img i < records_of img
 unfolding cell_fault
 cell_kept img i e = ltb-true (cell_of img i) (records_of img) (rule_fine _ refusal.Cell i fine e).0

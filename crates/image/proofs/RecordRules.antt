@@ -13,21 +13,21 @@ use Rattle.lists.specs.Lists.{every}
 use Rattle.lists.proofs.Laws.{both_true}
 use Rattle.codes.specs.Codes.{legal}
 use Rattle.refusal.specs.declared.Refusal.TheVariants as refusal
-use Rattle.image.specs.Inside.{Placed, Formed, children_of}
+use Rattle.image.specs.Inside.{Formed, children_at, weighed_of}
 use Rattle.image.specs.Words.{records_of, entries_of, field_of, entries, word_at, words_from}
 use Rattle.image.specs.Record.{action_of, action_at, codes_in, children_in, list_end}
 use Rattle.image.specs.Tree.{Action, end, ◌&◌, named, meaning, tree, open?, some_open, shut_but_last, opens_last, weight, weights}
 use Rattle.refusal.specs.Verdict.{Verdict, fine, refused, rule}
 use Rattle.image.specs.Check.{form, form_good, record_fault}
-use Rattle.image.specs.declared.children.Children.{Children}
+use Rattle.image.specs.declared.children.Weighed.{Weighed}
 use Rattle.image.specs.Sound.{Good}
 use Rattle.image.specs.declared.record.Action.{Action as Coded}
 use Rattle.image.specs.declared.record.Action.TheVariants as code
 use Rattle.refusal.proofs.Verdicts.{rule_no, rule_yes, rule_fine, rule_with}
-use Rattle.image.proofs.Tests.{and-true, and-false, or_false, not_or}
+use Rattle.image.proofs.Tests.{and-true, or_false, not_or}
 use Rattle.image.proofs.Entries.{length_entries, length_words, words_last, all_two}
 use Rattle.image.proofs.Trees.{tree_step, action_inside, by_kind}
-use Rattle.image.proofs.Weights.{Lower, sum_high, sum_lower, sum_few, every_one, every_last, shut_last, weights_last, entries_at, pair_words}
+use Rattle.image.proofs.Weights.{Placed, few_weights, every_one, every_last, shut_last, weights_last, entries_at, pair_words}
 
 -- the entries of a record whose form is good are in the list
 form_lists : (e k a b c : ℕ) → form e k a b c ≡ true → ((k ≡ 3) ⊎ (k ≡ 4)) → a + b ≤ e
@@ -110,7 +110,10 @@ good img n h e =
     let e5 = rule_fine _ refusal.Weight n _ e4.1 in
     record { form = e1.0; listed = listed_inside img n h e1.0; codes = e2.0; lower = e3.0; settles = e4.0; light = leb-true (weight (tree img n)) 64 e5.0 }
 
--- the entries of a MultipleActions but the last, and the last, as the check reads them
+-- the records that a MultipleActions names, as the check reads them: all, all but the last, and the last
+abbrev pub all_of : List ℕ → ℕ → ℕ → ℕ → List ℕ
+all_of img l first count = words_from img (l + 2 * first) count
+
 abbrev most_of : List ℕ → ℕ → ℕ → ℕ → List ℕ
 most_of img l first count = words_from img (l + 2 * first) (count - 1)
 
@@ -125,74 +128,53 @@ module _ (img : List ℕ) (r l n first count : ℕ) (p : Placed img r l) (f : Fo
       let listed : first + count ≤ entries_of img = subst (λ x. list_end x ≤ entries_of img) is (listed_inside img n f.inside f.form) in
       omega (arith, listed, length_words img (l + 2 * first) (count - 1), p.framed.entries)
 
-  all_rules : rule (every (λ k. ltb k n) (most_of img l first count ++ last_of img l first count ∷ [])) refusal.Child n (rule (shut_but_last (named (tree img) (most_of img l first count ++ last_of img l first count ∷ []))) refusal.Nested n (rule (leb (1 + weights (named (tree img) (most_of img l first count ++ last_of img l first count ∷ []))) 64) refusal.Weight n fine)) ≡ record_fault img n
-  all_rules = rw (entries_at img r l first count p ∙ words_last img (l + 2 * first) count some) at (actions_rules img n f first count is)
+  parted : all_of img l first count ≡ most_of img l first count ++ last_of img l first count ∷ []
+  parted = words_last img (l + 2 * first) count some
 
-  module _ {most last : Children} (em : most ≡ children_of img n (most_of img l first count)) (el : last ≡ children_of img n (words_from img (l + 2 * first + 2 * (count - 1)) 1)) where
-    one : last ≡ children_of img n (last_of img l first count ∷ [])
+  pub all_rules : rule (every (λ k. ltb k n) (all_of img l first count)) refusal.Child n (rule (shut_but_last (named (tree img) (all_of img l first count))) refusal.Nested n (rule (leb (1 + weights (named (tree img) (all_of img l first count))) 64) refusal.Weight n fine)) ≡ record_fault img n
+  all_rules = rw (entries_at img r l first count p) at (actions_rules img n f first count is)
+
+  module _ (low : every (λ k. ltb k n) (all_of img l first count) ≡ true) where
+    both : (every (λ k. ltb k n) (most_of img l first count) ≡ true) × (ltb (last_of img l first count) n ≡ true)
+    both = both_true _ _ (sym (every_last (λ k. ltb k n) (most_of img l first count) (last_of img l first count)) ∙ ap (every (λ k. ltb k n)) (sym parted) ∙ low)
+
+    pub most_low : every (λ k. ltb k n) (most_of img l first count) ≡ true
+    most_low = both.0
+
+    pub last_low : every (λ k. ltb k n) (words_from img (l + 2 * first + 2 * (count - 1)) 1) ≡ true
     unfolding words_from
-    one = el
+    last_low = every_one (λ k. ltb k n) (last_of img l first count) ∙ both.1
 
-    pub sums_small : (most.weight ≤ 65536) × (last.weight ≤ 64)
-    sums_small = (omega (arith, few, sum_few img n (most_of img l first count) most f em), omega (arith, sum_few img n (last_of img l first count ∷ []) last f one))
+    module _ {most last : Weighed} (em : most ≡ weighed_of (children_at img (l + 2 * first) (count - 1))) (el : last ≡ weighed_of (children_at img (l + 2 * first + 2 * (count - 1)) 1)) where
+      pub sums_shut : not most.opens ≡ shut_but_last (named (tree img) (all_of img l first count))
+      sums_shut = ap (λ (w : Weighed). not w.opens) em ∙ sym (shut_last (tree img) (most_of img l first count) (last_of img l first count)) ∙ ap (λ ks. shut_but_last (named (tree img) ks)) (sym parted)
 
-    pub most_high : most.lower ≡ false → refused refusal.Child n ≡ record_fault img n
-    most_high h = rule_no _ _ _ _ (every_last (λ k. ltb k n) (most_of img l first count) (last_of img l first count) ∙ rw (sum_high img n (most_of img l first count) most em h)) ∙ all_rules
+      pub sums_are : most.weight + last.weight ≡ weights (named (tree img) (all_of img l first count))
+      unfolding named weight words_from
+      sums_are = rw parted (omega (arith, weights_last (tree img) (most_of img l first count) (last_of img l first count), ap (λ (w : Weighed). w.weight) em, ap (λ (w : Weighed). w.weight) el))
 
-    pub last_high : last.lower ≡ false → refused refusal.Child n ≡ record_fault img n
-    last_high h = rule_no _ _ _ _ (every_last (λ k. ltb k n) (most_of img l first count) (last_of img l first count) ∙ rw (sym (every_one (λ k. ltb k n) (last_of img l first count)) ∙ sum_high img n (last_of img l first count ∷ []) last one h) (and-false (every (λ k. ltb k n) (most_of img l first count)))) ∙ all_rules
-
-    module _ (a : most.lower ≡ true) (b : last.lower ≡ true) where
-      x : Lower img n (most_of img l first count) most
-      x = sum_lower img n (most_of img l first count) most em a
-
-      y : Lower img n (last_of img l first count ∷ []) last
-      y = sum_lower img n (last_of img l first count ∷ []) last one b
-
-      lower_all : every (λ k. ltb k n) (most_of img l first count ++ last_of img l first count ∷ []) ≡ true
-      lower_all = every_last (λ k. ltb k n) (most_of img l first count) (last_of img l first count) ∙ rw (x.all, sym (every_one (λ k. ltb k n) (last_of img l first count)) ∙ y.all)
-
-      pub sums_open : most.opens ≡ true → refused refusal.Nested n ≡ record_fault img n
-      sums_open h = rule_yes _ _ _ _ lower_all (rule_no _ _ _ _ (shut_last (tree img) (most_of img l first count) (last_of img l first count) ∙ ap not (sym x.opens ∙ h))) ∙ all_rules
-
-      pub sums_weigh : most.opens ≡ false → rule (leb (1 + (most.weight + last.weight)) 64) refusal.Weight n fine ≡ record_fault img n
-      unfolding named weight
-      sums_weigh h =
-          let w : most.weight + last.weight ≡ weights (named (tree img) (most_of img l first count ++ last_of img l first count ∷ [])) = omega (arith, weights_last (tree img) (most_of img l first count) (last_of img l first count), x.weight, y.weight) in
-          rule_yes _ _ _ _ lower_all (rule_yes _ _ _ _ (shut_last (tree img) (most_of img l first count) (last_of img l first count) ∙ ap not (sym x.opens ∙ h)) (ap (λ w. rule (leb (1 + w) 64) refusal.Weight n fine) w)) ∙ all_rules
+      pub sums_small : (most.weight ≤ 65536) × (last.weight ≤ 64)
+      unfolding words_from
+      sums_small =
+          (omega (arith, few, few_weights img n f (most_of img l first count) most_low, ap (λ (w : Weighed). w.weight) em), omega (arith, few_weights img n f (last_of img l first count ∷ []) last_low, ap (λ (w : Weighed). w.weight) el))
 
 -- a HoldTap, by what hold and tap come to
 shut_two : (h p : Action) → (not (open? h) && not (open? p)) ≡ not (some_open (h & (p & end)))
 unfolding open?
 shut_two h p = rw (or_false (open? p)) (sym (not_or (open? h) (open? p)))
 
-module _ (img : List ℕ) (r l n : ℕ) (p : Placed img r l) (f : Formed img n) (is : field_of img n 0 ≡ 7) {sum : Children} (es : sum ≡ children_of img n (words_from img (r + 8 * n + 4) 2)) where
-  two : sum ≡ children_of img n (field_of img n 4 ∷ field_of img n 6 ∷ [])
-  two = es ∙ ap (children_of img n) (pair_words img r l n p)
+module _ (img : List ℕ) (r l n : ℕ) (p : Placed img r l) (f : Formed img n) (is : field_of img n 0 ≡ 7) where
+  two : words_from img (r + 8 * n + 4) 2 ≡ field_of img n 4 ∷ field_of img n 6 ∷ []
+  two = pair_words img r l n p
 
-  two_rules : rule (ltb (field_of img n 4) n && ltb (field_of img n 6) n) refusal.Child n (rule (not (open? (tree img (field_of img n 4))) && not (open? (tree img (field_of img n 6)))) refusal.Nested n (rule (leb (1 + (weight (tree img (field_of img n 4)) + weight (tree img (field_of img n 6)))) 64) refusal.Weight n fine)) ≡ record_fault img n
-  unfolding action_of
-  two_rules = hold_tap_rules img n f (field_of img n 2) (field_of img n 4) (field_of img n 6) (action_inside img n f.inside ∙ rw is)
+  pub pair_rules : rule (every (λ k. ltb k n) (words_from img (r + 8 * n + 4) 2)) refusal.Child n (rule (not (some_open (children_at img (r + 8 * n + 4) 2))) refusal.Nested n (rule (leb (1 + weights (children_at img (r + 8 * n + 4) 2)) 64) refusal.Weight n fine)) ≡ record_fault img n
+  unfolding action_of named weight
+  pair_rules =
+      let hold = tree img (field_of img n 4) in
+      let tap = tree img (field_of img n 6) in
+      let sum : weights (hold & (tap & end)) ≡ weight hold + weight tap = omega arith in
+      rw (two, all_two (λ k. ltb k n) (field_of img n 4) (field_of img n 6), ← shut_two hold tap, sum)
+      (hold_tap_rules img n f (field_of img n 2) (field_of img n 4) (field_of img n 6) (action_inside img n f.inside ∙ rw is))
 
-  pub pair_small : sum.weight ≤ 128
-  pair_small = omega (arith, sum_few img n (field_of img n 4 ∷ field_of img n 6 ∷ []) sum f two)
-
-  pub pair_high : sum.lower ≡ false → refused refusal.Child n ≡ record_fault img n
-  pair_high h = rule_no _ _ _ _ (sym (all_two (λ k. ltb k n) _ _) ∙ sum_high img n (field_of img n 4 ∷ field_of img n 6 ∷ []) sum two h) ∙ two_rules
-
-  module _ (low : sum.lower ≡ true) where
-    known : Lower img n (field_of img n 4 ∷ field_of img n 6 ∷ []) sum
-    known = sum_lower img n (field_of img n 4 ∷ field_of img n 6 ∷ []) sum two low
-
-    lower : (ltb (field_of img n 4) n && ltb (field_of img n 6) n) ≡ true
-    lower = sym (all_two (λ k. ltb k n) _ _) ∙ known.all
-
-    pub pair_open : sum.opens ≡ true → refused refusal.Nested n ≡ record_fault img n
-    unfolding named
-    pair_open h = rule_yes _ _ _ _ lower (rule_no _ _ _ _ (shut_two _ _ ∙ ap not (sym known.opens ∙ h))) ∙ two_rules
-
-    pub pair_weigh : sum.opens ≡ false → rule (leb (1 + sum.weight) 64) refusal.Weight n fine ≡ record_fault img n
-    unfolding named weight
-    pair_weigh h =
-        let w : sum.weight ≡ weight (tree img (field_of img n 4)) + weight (tree img (field_of img n 6)) = omega (arith, known.weight) in
-        rule_yes _ _ _ _ lower (rule_yes _ _ _ _ (shut_two _ _ ∙ ap not (sym known.opens ∙ h)) (ap (λ w. rule (leb (1 + w) 64) refusal.Weight n fine) w)) ∙ two_rules
+  pub pair_small : every (λ k. ltb k n) (words_from img (r + 8 * n + 4) 2) ≡ true → weights (children_at img (r + 8 * n + 4) 2) ≤ 128
+  pair_small low = omega (arith, few_weights img n f (words_from img (r + 8 * n + 4) 2) low, length_words img (r + 8 * n + 4) 2)

@@ -2,15 +2,8 @@
 -- Assumes nothing.
 use mathlib.Core.Path.{◌≡◌, refl}
 use mathlib.Core.Bool.{Bool, true, false, not, ◌&&◌, ◌||◌}
-use Prim.Native.Nat.{ℕ}
 
 -- two tests
-pub and_no : (a b : Bool) → a ≡ false → false ≡ (a && b)
-and_no a b e = rw e
-
-pub and_yes : (a b : Bool) {x : Bool} → a ≡ true → x ≡ b → x ≡ (a && b)
-and_yes a b e f = rw e f
-
 pub and-true : (a : Bool) → (a && true) ≡ a
 and-true true = refl
 and-true false = refl

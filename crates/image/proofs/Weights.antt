@@ -10,14 +10,16 @@ use lib.ListN.{length}
 use lib.Dec.{eqb, leb, ltb}
 use Rattle.lists.specs.Lists.{every}
 use Rattle.lists.proofs.Laws.{every_head}
-use Rattle.image.specs.Inside.{Placed, Formed, children_at, weighed_of, children_of, Parts}
-use Rattle.image.specs.Words.{records_start, word_at, field_of, entries, words_from}
+use Rattle.image.specs.Inside.{Formed, children_at, weighed_of, Parts}
+use Rattle.image.specs.declared.body.Body.{Body}
+use Rattle.image.specs.declared.words.Shape.{Shape}
+use Rattle.image.specs.Sound.{Framed}
+use Rattle.image.specs.Words.{list_start, records_start, word_at, field_of, entries, words_from}
 use Rattle.image.specs.Record.{action_of, children_in, list_end}
 use Rattle.image.specs.Tree.{Action, Actions, named, meaning, tree, open?, some_open, shut_but_last, weight, weights}
 use Rattle.image.specs.Check.{form, form_good}
 use Rattle.image.specs.declared.children.Child.{Child}
 use Rattle.image.specs.declared.children.Weighed.{Weighed}
-use Rattle.image.specs.declared.children.Children.{Children}
 use Rattle.image.specs.Sound.{Good, Meant}
 use Rattle.image.specs.declared.record.Action.TheVariants as code
 use Rattle.image.proofs.Tests.{and-true, and_assoc, or_false, not_or}
@@ -32,44 +34,6 @@ module _ (img : List ℕ) (n : ℕ) (f : Formed img n) where
   few_weights (k ∷ ks) e =
       let both = every_head (λ k. ltb k n) k ks e in
       omega (arith, (f.before k (ltb-true k n both.0)).light, few_weights ks both.1)
-
--- what the pass says
-module _ (img : List ℕ) (n : ℕ) (ks : List ℕ) where
-  pub sum_yes : {o : Bool} {w : ℕ} → every (λ k. ltb k n) ks ≡ true → o ≡ some_open (named (tree img) ks) → w ≡ weights (named (tree img) ks) → record { lower = true; opens = o; weight = w } ≡ children_of img n ks
-  unfolding children_of
-  sum_yes e p q = rw (e, p, q)
-
-  pub sum_no : every (λ k. ltb k n) ks ≡ false → record { lower = false; opens = false; weight = 0 } ≡ children_of img n ks
-  unfolding children_of
-  sum_no e = rw e
-
-  -- all are lower: then what it says of them holds
-  pub record Lower (s : Children) : Type 0 where
-    pub all : every (λ k. ltb k n) ks ≡ true
-    pub opens : s.opens ≡ some_open (named (tree img) ks)
-    pub weight : s.weight ≡ weights (named (tree img) ks)
-
-  says : (b : Bool) (s : Children) → every (λ k. ltb k n) ks ≡ b → s ≡ children_of img n ks → (s.lower ≡ b) × (b ≡ true → Lower s) × (b ≡ false → s.weight ≡ 0)
-  unfolding children_of
-  says true s e f =
-      let g : s ≡ record { lower = true; opens = some_open (named (tree img) ks); weight = weights (named (tree img) ks) } = f ∙ rw e in
-      (ap (λ (x : Children). x.lower) g, (λ t. record { all = e; opens = ap (λ (x : Children). x.opens) g; weight = ap (λ (x : Children). x.weight) g }), λ t. let z : ◌≡◌ {A = ℕ} 0 1 = cc in absurd (omega arith))
-  says false s e f =
-      let g : s ≡ record { lower = false; opens = false; weight = 0 } = f ∙ rw e in
-      (ap (λ (x : Children). x.lower) g, (λ t. let z : ◌≡◌ {A = ℕ} 0 1 = cc in absurd (omega arith)), λ t. ap (λ (x : Children). x.weight) g)
-
-  pub sum_lower : (s : Children) → s ≡ children_of img n ks → s.lower ≡ true → Lower s
-  sum_lower s e h = let t = says (every (λ k. ltb k n) ks) s refl e in t.1 (sym t.0 ∙ h)
-
-  pub sum_high : (s : Children) → s ≡ children_of img n ks → s.lower ≡ false → every (λ k. ltb k n) ks ≡ false
-  sum_high s e h = sym (says (every (λ k. ltb k n) ks) s refl e).0 ∙ h
-
-  pub sum_few : (s : Children) → Formed img n → s ≡ children_of img n ks → s.weight ≤ 64 * length ks
-  sum_few s f e = go (every (λ k. ltb k n) ks) refl
-    where
-      go : (b : Bool) → every (λ k. ltb k n) ks ≡ b → s.weight ≤ 64 * length ks
-      go true t = omega (arith, ((says true s t e).1 refl).weight, few_weights img n f ks t)
-      go false t = omega (arith, (says false s t e).2 refl)
 
 -- children one at a time: of so many those after the first i, and what is found of the first of these and of the rest
 abbrev pub children_after : List ℕ → ℕ → ℕ → ℕ → Actions
@@ -137,6 +101,17 @@ module _ (t : ℕ → Action) where
   weights_last (k ∷ ks) z = omega (arith, weights_last ks z)
 
 -- the entries of a MultipleActions as words one after the other
+
+-- the two offsets that a header tells
+pub record Placed (img : List ℕ) (records_at list_at : ℕ) : Type 0 where
+  pub framed : Framed img
+  pub first : records_at ≡ records_start img
+  pub second : list_at ≡ list_start img
+
+pub placed : (b : Body) → Placed b.image.now b.shape.records_at b.shape.list_at
+placed b =
+    record { framed = b.framed; first = ap (λ (s : Shape). s.records_at) b.told; second = ap (λ (s : Shape). s.list_at) b.told }
+
 pub entries_at : (img : List ℕ) (r l first count : ℕ) → Placed img r l → entries img first count ≡ words_from img (l + 2 * first) count
 entries_at img r l first count p = entries_words img first count ∙ ap (λ k. words_from img (k + 2 * first) count) (sym p.second)
 

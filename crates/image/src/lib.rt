@@ -6,6 +6,7 @@
 #![tactic(auto)]
 
 pub mod areas;
+mod body;
 mod children;
 mod header;
 pub mod record;

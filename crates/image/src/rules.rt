@@ -4,35 +4,34 @@
 ghost use Rattle.std.specs.Prelude.{◌≡◌, ◌<◌, ◌≤◌, length};
 ghost use Rattle.refusal.specs.Verdict.{first_fault};
 ghost use Rattle.refusal.specs.Said.{said};
-ghost use Rattle.image.specs.Words.{shape_of, cells_of, records_of};
+ghost use Rattle.image.specs.Words.{shape_of, cells_of};
 ghost use Rattle.image.specs.Check.{cell_fault, body_fault, fault_of, check_of, no_shape};
-ghost use Rattle.image.specs.Sound.{Framed};
 
+use super::body::Body;
 use super::header::head_rules;
-use super::records::records_rules;
 use super::words::{Shape, shape_of, word};
 use refusal::{Fault, Refusal, rule};
 
-// Each cell names a record.
-fn cells_rules(image: &[u8], count: usize, records: usize) -> Result<(), Fault>
-    requires { Framed image.now × (count ≡ cells_of image.now) × (records ≡ records_of image.now) }
-    ensures { result ≡ first_fault (cell_fault image.now) 0 count }
-{
-    for i in 0..count {
-        let named = word(image, 16 + 2 * i) as usize;
-        rule(named < records, Refusal::Cell, i)?;
+impl Body<'_> {
+    // Each cell names a record.
+    fn cells_rules(&self) -> Result<(), Fault>
+        ensures { result ≡ first_fault (cell_fault self.now.image.now) 0 (cells_of self.now.image.now) }
+    {
+        let s = self.shape;
+        for i in 0..s.layers * s.rows * s.columns {
+            let named = word(self.image, 16 + 2 * i) as usize;
+            rule(named < s.records, Refusal::Cell, i)?;
+        }
+        Ok(())
     }
-    Ok(())
-}
 
-// Cells, then records.
-#[tactic(auto, using(crate::proofs::HeaderRules::small))]
-fn body_rules(image: &[u8], s: Shape) -> Result<(), Fault>
-    requires { Framed image.now × (s ≡ shape_of image.now) }
-    ensures { result ≡ body_fault image.now }
-{
-    cells_rules(image, s.layers * s.rows * s.columns, s.records)?;
-    records_rules(image, s.records_at, s.list_at, s.entries, s.records)
+    // Cells, then records.
+    fn rules(&self) -> Result<(), Fault>
+        ensures { result ≡ body_fault self.now.image.now }
+    {
+        self.cells_rules()?;
+        self.records_rules()
+    }
 }
 
 // Past Short: Header, Length, cells, records.
@@ -42,7 +41,7 @@ fn image_rules(image: &[u8], s: Shape) -> Result<(), Fault>
 {
     let size = s.list_at + 2 * s.entries;
     head_rules(image, s, image.len() == size)?;
-    body_rules(image, s)
+    Body { image, shape: s }.rules()
 }
 
 // The check: the header's numbers, or the first fault and its place.

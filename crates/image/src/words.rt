@@ -1,8 +1,7 @@
 // The words of a table image: 16 bits, low byte first. Document 01, "The table image".
 // Assumes nothing.
-ghost use Rattle.std.specs.Prelude.{◌≡◌, ◌+◌, ◌*◌, ◌<◌, ◌≤◌, get_or, length};
-ghost use Rattle.image.specs.Words.{word_at, shape_of, records_of, entries_of, records_start, list_start, field_of, entry_of};
-ghost use Rattle.image.specs.Sound.{Framed};
+ghost use Rattle.std.specs.Prelude.{◌≡◌, ◌+◌, ◌<◌, ◌≤◌, get_or, length};
+ghost use Rattle.image.specs.Words.{word_at, shape_of};
 
 // The header's numbers but for the version.
 #[derive(Clone, Copy, PartialEq, Eq, Debug)]
@@ -60,20 +59,4 @@ pub(crate) fn shape_of(image: &[u8]) -> Shape
         records_at: word(image, 12) as usize,
         list_at: word(image, 14) as usize,
     }
-}
-
-// A word of record n: 0 its kind, 2 a, 4 b, 6 c.
-pub(crate) fn field(image: &[u8], records_at: usize, n: usize, at: usize) -> u16
-    requires { (at ≤ 6) × (n < records_of image.now) × Framed image.now × (records_at ≡ records_start image.now) }
-    ensures { result ≡ field_of image.now n at }
-{
-    word(image, records_at + 8 * n + at)
-}
-
-// Entry e of the list.
-pub(crate) fn entry(image: &[u8], list_at: usize, e: usize) -> u16
-    requires { (e < entries_of image.now) × Framed image.now × (list_at ≡ list_start image.now) }
-    ensures { result ≡ entry_of image.now e }
-{
-    word(image, list_at + 2 * e)
 }

@@ -5,6 +5,7 @@ use mathlib.Core.Path.{◌≡◌, refl, sym, subst, ◌∙◌}
 use mathlib.Core.Bool.{Bool, true, false, cond, ◌&&◌, ◌||◌}
 use mathlib.Core.List.{List, [], ◌∷◌}
 use native.Mathlib.Omega.{arith}
+use Rattle.std.specs.Prelude.{Option, Some, None}
 use borrow.Author.Tests.{leb-true}
 use lib.Dec.{leb}
 use Rattle.lists.proofs.Laws.{both_true}
@@ -25,8 +26,6 @@ use Rattle.layout.specs.Reach.{waits_in}
 use Rattle.layout.specs.Asserted.{Fact, NothingWaits, NoOlder, NotBelow, RunsSo, AllRunSo, ActSo, IntoSo, OverflowSo, EnteredSo, ReleasedSo, EventSo, TickedSo, TickSo, CallsSo, NeverWaits, FirstYounger, NeverBelow}
 use Rattle.layout.specs.declared.notes.Way.{Way}
 use Rattle.layout.specs.declared.notes.Way.TheVariants.{Tap, Hold}
-use Rattle.layout.specs.declared.queue.Found.{Found}
-use Rattle.layout.specs.declared.queue.Found.TheVariants.{None, At}
 use Rattle.layout.specs.declared.layout.Layout.{Layout}
 use Rattle.layout.proofs.Running.{kept, pressed_proper}
 use Rattle.layout.proofs.Lawful.{falling_older, falling_new}
@@ -34,12 +33,12 @@ use Rattle.layout.proofs.Reach.{good_lawful}
 use Rattle.layout.proofs.Limits.{Calm, spare, Weights, weighted, within_entered, proper_cells, calm_held}
 
 -- a fact that holds of a closed action whenever nothing waits
-module _ (P : Fact) (shut : (a : Action) → closed a ≡ true → (d : ℕ) (f : Found) (k : Model) → k.waiting ≡ Idle → P a d f k) where
+module _ (P : Fact) (shut : (a : Action) → closed a ≡ true → (d : ℕ) (f : Option ℕ) (k : Model) → k.waiting ≡ Idle → P a d f k) where
   -- so it does wherever the run of one comes to an action, since nothing waits after any of them
   mutual
     unfolding closed RunsSo
 
-    closed_so : (a : Action) (n : ℕ) (c : Coord) (d : ℕ) (f : Found) (l : Model) → closed a ≡ true → l.waiting ≡ Idle → RunsSo P a n c d f l
+    closed_so : (a : Action) (n : ℕ) (c : Coord) (d : ℕ) (f : Option ℕ) (l : Model) → closed a ≡ true → l.waiting ≡ Idle → RunsSo P a n c d f l
     closed_so NoOp n c d f l t e = shut NoOp t d f l e
     closed_so Trans n c d f l t e = shut Trans t d f l e
     closed_so (KeyCode k) n c d f l t e = shut (KeyCode k) t d f l e
@@ -49,14 +48,14 @@ module _ (P : Fact) (shut : (a : Action) → closed a ≡ true → (d : ℕ) (f 
     closed_so (DefaultLayer v) n c d f l t e = shut (DefaultLayer v) t d f l e
     closed_so (HoldTap i x h p) n c d f l t e = let z : ◌≡◌ {A = ℕ} 0 1 = cc in absurd (omega arith)
 
-    all_closed_so : (as' : Actions) (n : ℕ) (c : Coord) (d : ℕ) (f : Found) (l : Model) → closed_all as' ≡ true → l.waiting ≡ Idle → AllRunSo P as' n c d f l
+    all_closed_so : (as' : Actions) (n : ℕ) (c : Coord) (d : ℕ) (f : Option ℕ) (l : Model) → closed_all as' ≡ true → l.waiting ≡ Idle → AllRunSo P as' n c d f l
     all_closed_so end n c d f l t e = tt
     all_closed_so (a & as') n c d f l t e =
         let u = both_true (closed a) (closed_all as') t in
         (closed_so a n c d f l u.0 e, all_closed_so as' n c d f (do_action a n c d f l).layout u.1 ((kept a n c d f l u.0).waiting ∙ e))
 
   -- either the entry is closed, and nothing waits after it, or it is the last
-  rest_so : (a : Action) (as' : Actions) (n : ℕ) (c : Coord) (d : ℕ) (f : Found) (l : Model) (b : Bool) → closed a ≡ b → b || is_end as' ≡ true → l.waiting ≡ Idle
+  rest_so : (a : Action) (as' : Actions) (n : ℕ) (c : Coord) (d : ℕ) (f : Option ℕ) (l : Model) (b : Bool) → closed a ≡ b → b || is_end as' ≡ true → l.waiting ≡ Idle
       → ((k : Model) → k.waiting ≡ Idle → AllRunSo P as' n c d f k) → AllRunSo P as' n c d f (do_action a n c d f l).layout
   unfolding RunsSo
   rest_so a as' n c d f l true ea t e next = next (do_action a n c d f l).layout ((kept a n c d f l ea).waiting ∙ e)
@@ -67,7 +66,7 @@ module _ (P : Fact) (shut : (a : Action) → closed a ≡ true → (d : ℕ) (f 
   mutual
     unfolding proper holdable RunsSo
 
-    proper_so : (a : Action) (m : Times) (n : ℕ) (c : Coord) (d : ℕ) (f : Found) (l : Model) → proper a m ≡ true → l.waiting ≡ Idle → ((a : Action) (k : Model) → k.waiting ≡ Idle → P a d f k) → RunsSo P a n c d f l
+    proper_so : (a : Action) (m : Times) (n : ℕ) (c : Coord) (d : ℕ) (f : Option ℕ) (l : Model) → proper a m ≡ true → l.waiting ≡ Idle → ((a : Action) (k : Model) → k.waiting ≡ Idle → P a d f k) → RunsSo P a n c d f l
     proper_so NoOp m n c d f l t e y = y NoOp l e
     proper_so Trans m n c d f l t e y = y Trans l e
     proper_so (KeyCode k) m n c d f l t e y = y (KeyCode k) l e
@@ -80,7 +79,7 @@ module _ (P : Fact) (shut : (a : Action) → closed a ≡ true → (d : ℕ) (f 
         let v = both_true (closed h) (closed p) u.1 in
         (y (HoldTap i x h p) l e, closed_so p n c 0 f (with_waiting Idle l) v.1 refl, closed_so h n c 0 f (with_waiting Idle l) v.0 refl)
 
-    all_proper_so : (as' : Actions) (m : Times) (n : ℕ) (c : Coord) (d : ℕ) (f : Found) (l : Model) → proper_all as' m ≡ true → l.waiting ≡ Idle → ((a : Action) (k : Model) → k.waiting ≡ Idle → P a d f k) → AllRunSo P as' n c d f l
+    all_proper_so : (as' : Actions) (m : Times) (n : ℕ) (c : Coord) (d : ℕ) (f : Option ℕ) (l : Model) → proper_all as' m ≡ true → l.waiting ≡ Idle → ((a : Action) (k : Model) → k.waiting ≡ Idle → P a d f k) → AllRunSo P as' n c d f l
     all_proper_so end m n c d f l t e y = tt
     all_proper_so (a & as') m n c d f l t e y =
         let u = both_true ((closed a || is_end as') && proper a m) (proper_all as' m) t in
@@ -153,9 +152,9 @@ unfolding NeverWaits Holds
 never_waits img shape e lay =
     calls_so NothingWaits (λ a t d f k idle. idle) img lay (accepted img shape e).1 (λ x q rest i a c k idle. idle) (λ q rest i a c k idle. idle)
 
-no_older : (j k : ℕ) (f : Found) → j ≤ k → NoOlder j f → NoOlder k f
+no_older : (j k : ℕ) (f : Option ℕ) → j ≤ k → NoOlder j f → NoOlder k f
 no_older j k None h x = tt
-no_older j k (At age) h x = omega arith
+no_older j k (Some age) h x = omega arith
 
 -- in a queue whose ages fall, the first release is no older than what stands before it
 younger : (q : Queued) (qs : List Queued) (c : Coord) → falling (q ∷ qs) ≡ true → NoOlder (age_of q) (find c qs)
@@ -166,7 +165,7 @@ younger q (r ∷ qs) c h =
     let le = leb-true (age_of r) (age_of q) b.0 in
     go (is_release c r.event) le (no_older (age_of r) (age_of q) (find c qs) le (younger r qs c b.1))
   where
-    go : (t : Bool) → age_of r ≤ age_of q → NoOlder (age_of q) (find c qs) → NoOlder (age_of q) (cond t (At (age_of r)) (find c qs))
+    go : (t : Bool) → age_of r ≤ age_of q → NoOlder (age_of q) (find c qs) → NoOlder (age_of q) (cond t (Some (age_of r)) (find c qs))
     go true le x = le
     go false le x = x
 
@@ -175,7 +174,7 @@ unfolding FirstYounger
 first_younger q qs h c age e = subst (NoOlder (age_of q)) e (younger q qs c h)
 
 -- a closed action takes no difference, and any other action at most this one
-closed_below : (a : Action) → closed a ≡ true → (d : ℕ) (f : Found) (l : Model) → NotBelow a d f l
+closed_below : (a : Action) → closed a ≡ true → (d : ℕ) (f : Option ℕ) (l : Model) → NotBelow a d f l
 unfolding closed
 closed_below NoOp t d f l = tt
 closed_below Trans t d f l = tt
@@ -186,7 +185,7 @@ closed_below (Layer v) t d f l = tt
 closed_below (DefaultLayer v) t d f l = tt
 closed_below (HoldTap i x h p) t d f l = let z : ◌≡◌ {A = ℕ} 0 1 = cc in absurd (omega arith)
 
-not_below : (a : Action) (d : ℕ) (f : Found) (l : Model) → NoOlder d f → NotBelow a d f l
+not_below : (a : Action) (d : ℕ) (f : Option ℕ) (l : Model) → NoOlder d f → NotBelow a d f l
 not_below NoOp d f l x = tt
 not_below Trans d f l x = tt
 not_below (KeyCode k) d f l x = tt

@@ -8,53 +8,40 @@ use borrow.Author.Tests.{leb-true}
 use lib.Dec.{leb}
 use lib.ListN.{length, take, length-map}
 use Rattle.lists.specs.Lists.{laid}
-use Rattle.refusal.specs.declared.Refusal.{Refusal}
+use Rattle.std.specs.Prelude.{Option, Some, None, Result, Ok, Err}
+use Rattle.refusal.specs.Verdict.{Verdict, fine, granted}
+use Rattle.refusal.specs.declared.Fault.{Fault}
 use Rattle.refusal.specs.declared.Refusal.TheVariants as refusal
-use Rattle.refusal.specs.declared.Verdict.{Verdict}
-use Rattle.refusal.specs.declared.Verdict.TheVariants.{Fine, Refused}
 use Rattle.refusal.proofs.Verdicts.{rule_fine, or_fine}
-use Rattle.image.specs.Check.{check_of}
+use Rattle.image.specs.Check.{Checked, check_of}
+use Rattle.image.specs.Words.{layers_of}
 use Rattle.image.specs.Sound.{Sound}
-use Rattle.image.specs.declared.rules.Checked.{Checked}
-use Rattle.image.specs.declared.rules.Checked.TheVariants as checked
 use Rattle.image.proofs.Accepted.{accepted}
 use Rattle.layout.specs.Model.{Model, Done}
 use Rattle.layout.specs.Steps.{codes}
-use Rattle.layout.specs.Packed.{pad, no_slot, no_stacked, states_in, queued_of, stacked_of, list_in, waiting_of, waiting_in, model_of, pack, unpack}
+use Rattle.layout.specs.Packed.{pad, no_state, no_stacked, states_in, queued_of, stacked_of, list_in, waiting_of, waiting_in, model_of, pack, unpack}
 use Rattle.layout.specs.State.{state_good}
 use Rattle.layout.specs.Notes.{no_notes, noted}
 use Rattle.layout.specs.Calls.{verdict_in, judged_of, answer_of, layout_after, buffered, handed, replied}
-use Rattle.layout.specs.Inside.{Tidy, Lined, Handed}
+use Rattle.layout.specs.Inside.{Tidy, Lined, Ready, Handed, judged_layers}
 use Rattle.layout.specs.declared.active.State.{State}
-use Rattle.layout.specs.declared.active.Slot.{Slot}
 use Rattle.layout.specs.declared.active.Active.{Active}
-use Rattle.layout.specs.declared.active.Waiting.{Waiting}
-use Rattle.layout.specs.declared.active.Waiting.TheVariants as waiting
+use Rattle.layout.specs.declared.active.WaitingState.{WaitingState}
 use Rattle.layout.specs.declared.queue.Stacked.{Stacked}
 use Rattle.layout.specs.declared.queue.Queue.{Queue}
 use Rattle.layout.specs.declared.effect.Progress.{Progress}
 use Rattle.layout.specs.declared.layout.Layout.{Layout}
-use Rattle.layout.specs.declared.answer.Answer.{Answer}
-use Rattle.layout.specs.declared.answer.Answer.TheVariants as answer
 use Rattle.layout.specs.declared.answer.Answered.{Answered}
 use Rattle.layout.proofs.Moves.{Finished}
 use Rattle.layout.proofs.Parts.{held_length, list_length}
 use Rattle.layout.proofs.States.{legal, legal_tidy, legal_lined}
 
--- what a call that is not refused starts from: its table, its buffer, and both parts of its layout in order
-pub record Opened (img : List ℕ) (lay : Layout) (room : ℕ) : Type 0 where
-  pub fine : judged_of img lay room ≡ Fine
-  pub sound : Sound img
-  pub roomy : 64 ≤ room
-  pub tidy : Tidy lay.active
-  pub lined : Lined lay.queue
-
-fine_sound : (x : Checked) (img : List ℕ) → check_of img ≡ x → verdict_in x ≡ Fine → Sound img
-fine_sound (checked.Accepted s) img c e = (accepted img s c).1
-fine_sound (checked.Refused r place) img c e = let z : ◌≡◌ {A = ℕ} 0 1 = cc in absurd (omega arith)
+fine_sound : (x : Checked) (img : List ℕ) → check_of img ≡ x → verdict_in x ≡ fine → Sound img
+fine_sound (Ok s) img c e = (accepted img s c).1
+fine_sound (Err f) img c e = cc
 
 -- a call that is not refused has an accepted image, a layout that State is not given for, and room for its codes
-pub judged_fine : (img : List ℕ) (lay : Layout) (room : ℕ) → judged_of img lay room ≡ Fine → Sound img × (state_good img lay ≡ true) × (64 ≤ room)
+pub judged_fine : (img : List ℕ) (lay : Layout) (room : ℕ) → judged_of img lay room ≡ fine → Sound img × (state_good img lay ≡ true) × (64 ≤ room)
 unfolding judged_of
 judged_fine img lay room e =
     let a = or_fine (verdict_in (check_of img)) _ e in
@@ -62,55 +49,61 @@ judged_fine img lay room e =
     let c = rule_fine (leb 64 room) refusal.Room 0 _ b.1 in
     (fine_sound (check_of img) img refl a.0, b.0, leb-true 64 room c.0)
 
-pub opened : (img : List ℕ) (lay : Layout) (room : ℕ) (v : Verdict) → length lay.active.states ≡ 64 → length lay.queue.stacked ≡ 16 → v ≡ judged_of img lay room → v ≡ Fine → Opened img lay room
-opened img lay room v e f j g =
-    let fine = sym j ∙ g in
-    let a = judged_fine img lay room fine in
-    let good = legal img lay a.1 in
-    record { fine = fine; sound = a.0; roomy = a.2; tidy = legal_tidy img lay good e; lined = legal_lined img lay good f }
+-- what a call is judged tells which of the two it is
+granted_ok : (v : Verdict) (a b : ℕ) → granted v a ≡ Ok b → (v ≡ fine) × (b ≡ a)
+granted_ok (Ok u) a b e = (refl, cc)
+granted_ok (Err f) a b e = (cc, cc)
 
-map_slots : (l : List Slot) → map (λ (s : State). record { state = s }) (map (λ (s : Slot). s.state) l) ≡ l
-map_slots [] = refl
-map_slots (s ∷ l) = ap (λ (x : List Slot). s ∷ x) (map_slots l)
+granted_err : (v : Verdict) (a : ℕ) (f : Fault) → granted v a ≡ Err f → v ≡ Err f
+granted_err (Ok u) a f e = cc
+granted_err (Err g) a f e = cc
+
+pub ready : (img : List ℕ) (lay : Layout) (room n : ℕ) → length lay.active.states ≡ 64 → length lay.queue.stacked ≡ 16 → judged_layers img lay room ≡ Ok n
+    → Ready img n lay.active lay.queue × (64 ≤ room)
+ready img lay room n e f j =
+    let both = granted_ok (judged_of img lay room) (layers_of img) n j in
+    let a = judged_fine img lay room both.0 in
+    let good = legal img lay a.1 in
+    (record { sound = a.0; layers = both.1; tidy = legal_tidy img lay good e; lined = legal_lined img lay good f }, a.2)
 
 map_stacked : (l : List Stacked) → map stacked_of (map queued_of l) ≡ l
 map_stacked [] = refl
 map_stacked (s ∷ l) = ap (λ (x : List Stacked). s ∷ x) (map_stacked l)
 
-waiting_back : (img : List ℕ) (w : Waiting) → waiting_in (waiting_of img w) ≡ w
-waiting_back img waiting.Nothing = refl
-waiting_back img (waiting.On w) = refl
+waiting_back : (img : List ℕ) (w : Option WaitingState) → waiting_in (waiting_of img w) ≡ w
+waiting_back img None = refl
+waiting_back img (Some w) = refl
 
 -- both parts in order are the packed layout
 pub packed : (img : List ℕ) (active : Active) (queue : Queue) → Tidy active → Lined queue → record { active = active; queue = queue } ≡ pack (model_of img active (list_in queue))
 packed img active queue t l =
-    let slots : active.states ≡ pad 64 no_slot (map (λ (s : State). record { state = s }) (states_in active)) = sym (ap (pad 64 no_slot) (map_slots (take active.len active.states)) ∙ t.clean) in
-    let count : active.len ≡ length (states_in active) = sym (rw length-map (held_length active t)) in
+    let states : active.states ≡ pad 64 no_state (states_in active) = sym t.clean in
+    let count : active.len ≡ length (states_in active) = sym (held_length active t) in
     let waits : active.waiting ≡ waiting_in (waiting_of img active.waiting) = sym (waiting_back img active.waiting) in
     let events : queue.stacked ≡ pad 16 no_stacked (map stacked_of (list_in queue)) = sym (ap (pad 16 no_stacked) (map_stacked (take queue.queued queue.stacked)) ∙ l.clean) in
     let queued : queue.queued ≡ length (list_in queue) = sym (list_length queue l) in
     λ i. record {
-      active = record { default_layer = active.default_layer; states = slots i; len = count i; waiting = waits i };
+      active = record { default_layer = active.default_layer; states = states i; len = count i; waiting = waits i };
       queue = record { stacked = events i; queued = queued i };
     }
 
 -- a refused call
-pub call_refused : (img : List ℕ) (lay : Layout) (buffer : List ℕ) (step : Model → Done) (v : Verdict) (r : Refusal) (place : ℕ) (a : Answer)
-    → v ≡ judged_of img lay (length buffer) → v ≡ Refused r place → a ≡ answer.Refused r place
-    → handed (record { answer = a; layout = lay }) buffer ≡ replied img step lay buffer
+pub call_refused : (img : List ℕ) (lay : Layout) (buffer : List ℕ) (step : Model → Done) {judged : Result ℕ Fault} {fault : Fault}
+    → judged ≡ judged_layers img lay (length buffer) → judged ≡ Err fault
+    → handed (record { answer = Err fault; layout = lay }) buffer ≡ replied img step lay buffer
 unfolding replied answer_of layout_after buffered
-call_refused img lay buffer step v r place a j e f = rw (sym j ∙ e, f)
+call_refused img lay buffer step j e = rw (granted_err (judged_of img lay (length buffer)) (layers_of img) _ (sym j ∙ e))
 
 -- a call that was not
-pub call_finished : (img : List ℕ) (lay : Layout) (end : Progress) (queue : Queue) (step : Model → Done) (buffer after : List ℕ) (a : Answered)
-    → Opened img lay (length buffer) → Finished img end queue (step (unpack img lay)) → Handed end queue a buffer after
+pub call_finished : (img : List ℕ) (lay : Layout) (end : Progress) (queue : Queue) (step : Model → Done) (buffer after : List ℕ) (a : Answered) {judged : Result ℕ Fault} {n : ℕ}
+    → judged ≡ judged_layers img lay (length buffer) → judged ≡ Ok n → Finished img end queue (step (unpack img lay)) → Handed end queue a buffer after
     → handed a after ≡ replied img step lay buffer
 unfolding replied answer_of layout_after buffered
-call_finished img lay end queue step buffer after a o w h =
+call_finished img lay end queue step buffer after a j o w h =
     let done = step (unpack img lay) in
     let held : states_in end.active ≡ done.layout.states = ap (λ (m : Model). m.states) w.1.is in
     let whole : record { active = end.active; queue = queue } ≡ pack done.layout = packed img end.active queue w.1.tidy w.0 ∙ ap pack w.1.is in
-    let answers : a ≡ record { answer = answer.Done (length (codes done.layout.states)) (noted no_notes done); layout = pack done.layout } =
-    h.0 ∙ (λ i. record { answer = answer.Done (length (codes (held i))) (w.1.notes i); layout = whole i }) in
+    let answers : a ≡ record { answer = Ok (record { codes = length (codes done.layout.states); notes = noted no_notes done }); layout = pack done.layout } =
+    h.0 ∙ (λ i. record { answer = Ok (record { codes = length (codes (held i)); notes = w.1.notes i }); layout = whole i }) in
     let bytes : after ≡ laid (codes done.layout.states) buffer = h.1 ∙ ap (λ (s : List State). laid (codes s) buffer) held in
-    rw o.fine (λ i. handed (answers i) (bytes i))
+    rw (granted_ok (judged_of img lay (length buffer)) (layers_of img) _ (sym j ∙ o)).0 (λ i. handed (answers i) (bytes i))

@@ -16,15 +16,14 @@ use borrow.Author.Tests.{lt-ltb, le-ltb}
 use Rattle.event.specs.declared.Coord.{Coord}
 use Rattle.layout.specs.Model.{Queued, Model, Waiting, Idle, Begun, Decided, Done, still, lost, marked, after, with_base, with_states, with_waiting}
 use Rattle.layout.specs.Actions.{push}
-use Rattle.layout.specs.Packed.{pad, no_slot, states_in, waiting_of, model_of}
+use Rattle.layout.specs.Packed.{pad, no_state, states_in, waiting_of, model_of}
 use Rattle.layout.specs.Notes.{noted, noted_marks, note_decision, note_dropped}
 use Rattle.layout.specs.Inside.{Tidy, Did}
 use Rattle.layout.specs.Effects.{state_of, effect_of, effect_in, HasRoom, Effected, Grown}
 use Rattle.layout.specs.declared.active.State.{State}
 use Rattle.layout.specs.declared.active.State.TheVariants.{NormalKey, LayerModifier}
-use Rattle.layout.specs.declared.active.Slot.{Slot}
-use Rattle.layout.specs.declared.active.Waiting.{Waiting as WaitingIn}
-use Rattle.layout.specs.declared.active.Waiting.TheVariants as waiting
+use Rattle.layout.specs.declared.active.WaitingState.{WaitingState}
+use Rattle.std.specs.Prelude.{Option, None}
 use Rattle.layout.specs.declared.notes.Way.{Way}
 use Rattle.layout.specs.declared.notes.Notes.{Notes}
 use Rattle.layout.specs.declared.active.Active.{Active}
@@ -43,38 +42,30 @@ layer_state : (c : Coord) (v : ℕ) → v < 65536 → state_of c (65536 + v) ≡
 unfolding state_of
 layer_state c v h = rw (le-ltb (65536 + v) 65536 (omega arith), add-mod_left 65536 v, mod-eq_of_lt {n = v} {m = 65536} h)
 
--- the place of a state that a number stands for
-abbrev pub slot_of : Coord → ℕ → Slot
-slot_of c n = record { state = state_of c n }
-
-states_of : (c : Coord) (a : List ℕ) → map (λ (s : Slot). s.state) (map (slot_of c) a) ≡ map (state_of c) a
-states_of c [] = refl
-states_of c (n ∷ a) = ap (λ (x : List State). state_of c n ∷ x) (states_of c a)
-
 -- a loop that puts the states of numbers behind the first h places: the array before it, and after a effect at k
-pub grown_none : (active : Active) (h : ℕ) → Tidy active → h ≡ active.len → active.states ≡ pad 64 no_slot (take h active.states ++ [])
+pub grown_none : (active : Active) (h : ℕ) → Tidy active → h ≡ active.len → active.states ≡ pad 64 no_state (take h active.states ++ [])
 grown_none active h t e = rw (e, append-nil) (sym t.clean)
 
-pub grown_more : (c : Coord) (l arr : List Slot) (a : List ℕ) (h k : ℕ) → length l ≡ h → h + k < 64 → k < length a → arr ≡ pad 64 no_slot (l ++ map (slot_of c) (take k a))
-    → set arr (h + k) (slot_of c (get_or a k 0)) ≡ pad 64 no_slot (l ++ map (slot_of c) (take (k + 1) a))
+pub grown_more : (c : Coord) (l arr : List State) (a : List ℕ) (h k : ℕ) → length l ≡ h → h + k < 64 → k < length a → arr ≡ pad 64 no_state (l ++ map (state_of c) (take k a))
+    → set arr (h + k) (state_of c (get_or a k 0)) ≡ pad 64 no_state (l ++ map (state_of c) (take (k + 1) a))
 grown_more c l arr a h k e lt in-a ea =
-    let put = l ++ map (slot_of c) (take k a) in
+    let put = l ++ map (state_of c) (take k a) in
     let count : h + k ≡ length put = sym (rw (length-append, length-map, length-take-le k a (omega arith), e)) in
-    let more : l ++ map (slot_of c) (take (k + 1) a) ≡ put ++ (slot_of c (get_or a k 0) ∷ []) = rw (add-one, take-suc a k 0 in-a, map-append, append_assoc) in
-    rw more (held_more 64 no_slot put (slot_of c (get_or a k 0)) arr (h + k) lt count ea).1
+    let more : l ++ map (state_of c) (take (k + 1) a) ≡ put ++ (state_of c (get_or a k 0) ∷ []) = rw (add-one, take-suc a k 0 in-a, map-append, append_assoc) in
+    rw more (held_more 64 no_state put (state_of c (get_or a k 0)) arr (h + k) lt count ea).1
 
-pub grown : (active : Active) (effect : Effect) (a : List ℕ) (c : Coord) (arr : List Slot) → Tidy active → HasRoom effect a → effect.held ≡ active.len
-    → arr ≡ pad 64 no_slot (take effect.held active.states ++ map (slot_of c) (take effect.added a))
+pub grown : (active : Active) (effect : Effect) (a : List ℕ) (c : Coord) (arr : List State) → Tidy active → HasRoom effect a → effect.held ≡ active.len
+    → arr ≡ pad 64 no_state (take effect.held active.states ++ map (state_of c) (take effect.added a))
     → Grown active effect a c (record { active = record { default_layer = effect.default_layer; states = arr; len = effect.held + effect.added; waiting = effect.waiting }; notes = effect.notes })
 grown active effect a c arr t r e ea =
-    let put = take effect.held active.states ++ map (slot_of c) (take effect.added a) in
+    let put = take effect.held active.states ++ map (state_of c) (take effect.added a) in
     let first : length (take effect.held active.states) ≡ effect.held = rw e (held_length active t) in
     let count : effect.held + effect.added ≡ length put = sym (rw (length-append, length-map, first, length-take-le effect.added a (omega (arith, r.few, r.long)))) in
-    let is : take (effect.held + effect.added) arr ≡ put = rw (count, ea) (take_pad 64 no_slot put) in
+    let is : take (effect.held + effect.added) arr ≡ put = rw (count, ea) (take_pad 64 no_state put) in
     record {
-      tidy = record { few = r.few; clean = ap (pad 64 no_slot) is ∙ sym ea };
+      tidy = record { few = r.few; clean = ap (pad 64 no_state) is ∙ sym ea };
       base = refl;
-      states = rw (is, map-append, states_of, e);
+      states = rw (is, e);
       waiting = refl;
       notes = refl;
     }
@@ -97,7 +88,7 @@ module _ (img : List ℕ) (c : Coord) where
   unfolding noted_marks
   effected_nothing t a r = record { held = refl; roomy = r; is = λ s h q. refl; notes = λ s h q. refl }
 
-  pub new_wait : (t : Effect) (a : List ℕ) (w : WaitingIn) → HasRoom t a
+  pub new_wait : (t : Effect) (a : List ℕ) (w : Option WaitingState) → HasRoom t a
       → Effected img c t (record { default_layer = t.default_layer; held = t.held; added = t.added; waiting = w; notes = t.notes }) a a (λ m. still (with_waiting (waiting_of img w) m))
   unfolding noted_marks
   new_wait t a w r = record { held = refl; roomy = record { few = r.few; long = r.long }; is = λ s h q. refl; notes = λ s h q. refl }
@@ -109,7 +100,7 @@ module _ (img : List ℕ) (c : Coord) where
 
   -- what waits waits no more, and the decision is noted
   pub settled : (t : Effect) (a : List ℕ) (k : Coord) (way : Way) (notes : Notes) → HasRoom t a → notes ≡ note_decision t.notes k way
-      → Effected img c t (record { default_layer = t.default_layer; held = t.held; added = t.added; waiting = waiting.Nothing; notes = notes }) a a (λ m. marked (Decided k way) (still (with_waiting Idle m)))
+      → Effected img c t (record { default_layer = t.default_layer; held = t.held; added = t.added; waiting = None; notes = notes }) a a (λ m. marked (Decided k way) (still (with_waiting Idle m)))
   unfolding noted_marks
   settled t a k way notes r e = record { held = refl; roomy = record { few = r.few; long = r.long }; is = λ s h q. refl; notes = λ s h q. e }
 
@@ -220,7 +211,7 @@ module _ (img : List ℕ) (c : Coord) where
       → Grown active last b c end → (q : List Queued) → Did img notes end q (f (model_of img active q))
   did_effect active notes end effect last a b {f} t e d g q =
       let s = states_in active in
-      let h : length s ≡ effect.held = rw (length-map) (held_length active t ∙ sym (ap (λ (x : Effect). x.held) e)) in
+      let h : length s ≡ effect.held = (held_length active t ∙ sym (ap (λ (x : Effect). x.held) e)) in
       let first : effect_in img c effect a s q ≡ model_of img active q = ap (λ (x : Effect). effect_in img c x a s q) e ∙ model_of_lem q refl (append-nil s) refl in
       record {
         tidy = g.tidy;

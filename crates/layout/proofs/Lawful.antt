@@ -4,6 +4,7 @@ use mathlib.Core.Bool.{Bool, true, false, cond}
 use mathlib.Core.List.{List, [], ◌∷◌, ◌++◌}
 use Prim.Native.Nat.{ℕ, zero, suc, ◌+◌, ◌-◌, ◌≤◌, ◌<◌, min}
 use native.Mathlib.Omega.{arith}
+use Rattle.std.specs.Prelude.{Option}
 use borrow.Author.Tests.{le-leb, leb-true, ltb-true}
 use lib.Dec.{leb, ltb}
 use lib.ListN.{length, length-append, length-map}
@@ -26,7 +27,6 @@ use Rattle.layout.specs.declared.active.State.{State}
 use Rattle.layout.specs.declared.active.State.TheVariants.{NormalKey, LayerModifier}
 use Rattle.layout.specs.declared.notes.Way.{Way}
 use Rattle.layout.specs.declared.notes.Way.TheVariants.{Tap, Hold}
-use Rattle.layout.specs.declared.queue.Found.{Found}
 use Rattle.layout.proofs.Pads.{keep_length}
 use Rattle.layout.proofs.Rooted.{Rooted, AllRooted, rooted_cell}
 
@@ -125,7 +125,7 @@ module _ (img : List ℕ) where
   mutual
     unfolding do_action Rooted
 
-    do_lawful : (a : Action) (c : Coord) (d : ℕ) (f : Found) (l : Model) → Rooted img a → Lawful img l → Lawful img (do_action a (layers_of img) c d f l).layout
+    do_lawful : (a : Action) (c : Coord) (d : ℕ) (f : Option ℕ) (l : Model) → Rooted img a → Lawful img l → Lawful img (do_action a (layers_of img) c d f l).layout
     do_lawful NoOp c d f l r w = w
     do_lawful Trans c d f l r w = w
     do_lawful (KeyCode k) c d f l r w = push_lawful (NormalKey k c) l r w
@@ -144,7 +144,7 @@ module _ (img : List ℕ) where
         (do_lawful p c 0 f (with_waiting Idle l) r.2 idle)
         (do_lawful h c 0 f (with_waiting Idle l) r.1 idle)
 
-    all_lawful : (as' : Actions) (c : Coord) (d : ℕ) (f : Found) (l : Model) → AllRooted img as' → Lawful img l → Lawful img (do_actions as' (layers_of img) c d f l).layout
+    all_lawful : (as' : Actions) (c : Coord) (d : ℕ) (f : Option ℕ) (l : Model) → AllRooted img as' → Lawful img l → Lawful img (do_actions as' (layers_of img) c d f l).layout
     all_lawful end c d f l r w = w
     all_lawful (a & as') c d f l r w = all_lawful as' c d f (do_action a (layers_of img) c d f l).layout r.1 (do_lawful a c d f l r.0 w)
 

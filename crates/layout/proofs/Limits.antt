@@ -31,8 +31,8 @@ use Rattle.layout.specs.Limits.{Limits, Limited, AtMost}
 use Rattle.layout.specs.Reach.{waits_in}
 use Rattle.layout.specs.declared.notes.Way.{Way}
 use Rattle.layout.specs.declared.notes.Way.TheVariants.{Tap, Hold}
-use Rattle.layout.specs.declared.active.Waiting.{Waiting as WaitingIn}
-use Rattle.layout.specs.declared.active.Waiting.TheVariants as waiting
+use Rattle.layout.specs.declared.active.WaitingState.{WaitingState}
+use Rattle.std.specs.Prelude.{Option, Some, None}
 use Rattle.layout.specs.declared.layout.Layout.{Layout}
 use Rattle.layout.proofs.Running.{kept, Comes, nothing, begun, settled, ran, pressed_proper}
 
@@ -224,9 +224,9 @@ calm_tree (Layer v) s = (refl, refl)
 calm_tree (DefaultLayer v) s = (refl, refl)
 calm_tree (HoldTap j t h p) s = let b = both_true (not (open? h)) (not (open? p)) s in (rw (open_closed h) b.0, rw (open_closed p) b.1)
 
-pub calm_held : (img : List ℕ) (w : WaitingIn) → Sound img → Calm (waiting_of img w)
-calm_held img waiting.Nothing s = tt
-calm_held img (waiting.On w) s = calm_tree (tree img w.number) (settles img w.number s)
+pub calm_held : (img : List ℕ) (w : Option WaitingState) → Sound img → Calm (waiting_of img w)
+calm_held img None s = tt
+calm_held img (Some w) s = calm_tree (tree img w.number) (settles img w.number s)
 
 pub limited : (img : List ℕ) (lay : Layout) → Sound img → Limited img lay
 limited img lay s =

@@ -15,21 +15,19 @@ use Rattle.image.specs.Words.{layers_of}
 use Rattle.image.specs.Tree.{Action}
 use Rattle.image.specs.Table.{Table, table_of}
 use Rattle.layout.specs.Model.{Queued, Model, Waiting, Idle, Waits, Acted, Done, age_of, still, marked, after, with_waiting, with_queue}
-use Rattle.layout.specs.Actions.{decided}
+use Rattle.layout.specs.Actions.{find, decided}
 use Rattle.layout.specs.Steps.{act, into, into_hold, into_tap, releases, released, overflow, appended, entered, event, older, tick_wait, ticked, tick}
 use Rattle.layout.specs.Packed.{list_in, waiting_of, waits_at, model_of, unpack}
 use Rattle.layout.specs.Notes.{no_notes, note_acted, noted, noted_marks}
-use Rattle.layout.specs.Inside.{Tidy, Lined, Moves, Did, Steps, setting_of, becomes, waited_one}
+use Rattle.layout.specs.Inside.{Tidy, Lined, Moves, Did, Steps, becomes, waited_one}
 use Rattle.layout.specs.Effects.{effect_of, Settled, Grown}
 use Rattle.layout.specs.declared.active.Active.{Active}
 use Rattle.layout.specs.declared.active.WaitingState.{WaitingState}
-use Rattle.layout.specs.declared.active.Waiting.{Waiting as WaitingIn}
-use Rattle.layout.specs.declared.active.Waiting.TheVariants as waiting
+use Rattle.std.specs.Prelude.{Option, Some, None}
 use Rattle.layout.specs.declared.notes.Way.{Way}
 use Rattle.layout.specs.declared.notes.Way.TheVariants.{Hold}
 use Rattle.layout.specs.declared.notes.Notes.{Notes}
 use Rattle.layout.specs.declared.queue.Queue.{Queue}
-use Rattle.layout.specs.declared.action.Setting.{Setting}
 use Rattle.layout.specs.declared.effect.Effect.{Effect}
 use Rattle.layout.specs.declared.effect.Progress.{Progress}
 use Rattle.layout.specs.declared.layout.Layout.{Layout}
@@ -69,7 +67,7 @@ module _ (img : List ℕ) where
 
   -- a call that began with no notes, and a queue that holds the list l
   pub finished : (lay : Layout) (none : Notes) (end : Progress) (queue : Queue) (l : List Queued) (f : Model → Done) → none ≡ no_notes → Lined queue → list_in queue ≡ l
-      → Steps img lay.active none end queue f → Finished img end queue (f (with_queue l (unpack img lay)))
+      → Steps img (record { active = lay.active; notes = none }) end queue f → Finished img end queue (f (with_queue l (unpack img lay)))
   finished lay none end queue l f en t e d =
       let listed : Did img none end (list_in queue) (f (model_of img lay.active l)) = subst (λ (x : List Queued). Did img none end (list_in queue) (f (model_of img lay.active x))) e d in
       (t, subst (λ (n : Notes). Did img n end (list_in queue) (f (model_of img lay.active l))) en listed)
@@ -132,40 +130,40 @@ module _ (T : Table) (l : Model) where
 
 -- nothing waits, so nothing becomes hold or tap; and what waits is decided
 module _ (img : List ℕ) (active : Active) (notes : Notes) (way : Way) where
-  pub into_none : (q : List Queued) → Tidy active → active.waiting ≡ waiting.Nothing
+  pub into_none : (q : List Queued) → Tidy active → active.waiting ≡ None
       → Did img notes (record { active = active; notes = notes }) q (into way (table_of img) (waiting_of img active.waiting) (model_of img active q))
   unfolding into
-  into_none q t e = did_as img (did_nothing img active notes q t) (sym (ap (λ (w : WaitingIn). into way (table_of img) (waiting_of img w) (model_of img active q)) e))
+  into_none q t e = did_as img (did_nothing img active notes q t) (sym (ap (λ (w : Option WaitingState). into way (table_of img) (waiting_of img w) (model_of img active q)) e))
 
-  pub into_on : (q : List Queued) (end : Progress) (w : WaitingState) → active.waiting ≡ waiting.On w → Did img notes end q (becomes img way w (model_of img active q))
+  pub into_on : (q : List Queued) (end : Progress) (w : WaitingState) → active.waiting ≡ Some w → Did img notes end q (becomes img way w (model_of img active q))
       → Did img notes end q (into way (table_of img) (waiting_of img active.waiting) (model_of img active q))
-  into_on q end w e d = did_as img d (sym (ap (λ (x : WaitingIn). into way (table_of img) (waiting_of img x) (model_of img active q)) e))
+  into_on q end w e d = did_as img d (sym (ap (λ (x : Option WaitingState). into way (table_of img) (waiting_of img x) (model_of img active q)) e))
 
   -- the HoldTap that waits is decided in its setting, and what that left is taken
-  pub becomes_so : (layers : ℕ) (queue : Queue) (w : WaitingState) (setting : Setting) (effect last : Effect) (a b : List ℕ) (end : Progress) → Tidy active → layers ≡ layers_of img
-      → setting ≡ setting_of layers queue w.coord → effect ≡ effect_of active notes → Settled img w.number setting way effect last a b → Grown active last b w.coord end
-      → Steps img active notes end queue (becomes img way w)
+  pub becomes_so : (layers : ℕ) (queue : Queue) (w : WaitingState) (found : Option ℕ) (effect last : Effect) (a b : List ℕ) (end : Progress) → Tidy active → layers ≡ layers_of img
+      → found ≡ find w.coord (list_in queue) → effect ≡ effect_of active notes
+      → Settled img w.number (record { layers = layers; coord = w.coord; delay = 0; found = found }) way effect last a b → Grown active last b w.coord end
+      → Steps img (record { active = active; notes = notes }) end queue (becomes img way w)
   unfolding into
-  becomes_so layers queue w setting effect last a b end t el es ee d g =
-      let there : Settled img w.number (setting_of layers queue w.coord) way effect last a b = subst (λ (s : Setting). Settled img w.number s way effect last a b) es d in
-      did_as img (did_effect img w.coord active notes end effect last a b t ee there g (list_in queue)) (rw el)
+  becomes_so layers queue w found effect last a b end t el ef ee d g =
+      did_as img (did_effect img w.coord active notes end effect last a b t ee d g (list_in queue)) (rw (el, ef))
 
 -- a tick where something waits: it has a tick less, or becomes hold where none is left
 module _ (img : List ℕ) (active : Active) (notes : Notes) (queue : Queue) (w : WaitingState) (k : ℕ) (ek : k ≡ w.left - 1) where
   pub did_waiting : (next : Active) → Moves img active next (with_waiting (waiting_of img (waits_at w.coord k w.number))) → 0 < k
-      → Steps img active notes (record { active = next; notes = notes }) queue (waited_one img w)
+      → Steps img (record { active = active; notes = notes }) (record { active = next; notes = notes }) queue (waited_one img w)
   did_waiting next m h =
       let fewer = subst (λ (x : ℕ). Moves img active next (with_waiting (waiting_of img (waits_at w.coord x w.number)))) ek m in
       did_as img (did_moves img active next notes (list_in queue) fewer) (sym (wait_on (table_of img) _ (w.left - 1) (omega arith)))
 
   -- what waits is gone once it is decided, so that how many ticks it had left is all the same
-  pub did_up : (end : Progress) → k ≤ 0 → Steps img active notes end queue (becomes img Hold w) → Steps img active notes end queue (waited_one img w)
+  pub did_up : (end : Progress) → k ≤ 0 → Steps img (record { active = active; notes = notes }) end queue (becomes img Hold w) → Steps img (record { active = active; notes = notes }) end queue (waited_one img w)
   unfolding into decided
   did_up end h d = did_as img d (sym (wait_up (table_of img) _ (w.left - 1) (omega arith)))
 
 -- a tick of a whole layout, where something waits
-pub tick_goes : (img : List ℕ) (lay : Layout) (none : Notes) (w : WaitingState) (queue : Queue) (end : Progress) → none ≡ no_notes → lay.active.waiting ≡ waiting.On w → Lined queue → list_in queue ≡ older (list_in lay.queue)
-    → Steps img lay.active none end queue (waited_one img w) → Finished img end queue (tick (table_of img) (unpack img lay))
+pub tick_goes : (img : List ℕ) (lay : Layout) (none : Notes) (w : WaitingState) (queue : Queue) (end : Progress) → none ≡ no_notes → lay.active.waiting ≡ Some w → Lined queue → list_in queue ≡ older (list_in lay.queue)
+    → Steps img (record { active = lay.active; notes = none }) end queue (waited_one img w) → Finished img end queue (tick (table_of img) (unpack img lay))
 tick_goes img lay none w queue end en e t eq d =
     finished_as img (finished img lay none end queue (older (list_in lay.queue)) (waited_one img w) en t eq d)
     (sym (tick_on (table_of img) (unpack img lay) w.coord w.left w.number _ _ (ap (waiting_of img) e)))
@@ -173,7 +171,7 @@ tick_goes img lay none w queue end en e t eq d =
 -- an event of a whole layout: it is entered by a step, and then what waits for its release becomes tap
 pub event_goes : (img : List ℕ) (lay : Layout) (none : Notes) (e : Event) (queue : Queue) (end : Progress) (l : List Queued) (enter : Model → Done) → none ≡ no_notes → Lined queue → list_in queue ≡ l
     → entered (table_of img) e (list_in lay.queue) (unpack img lay) ≡ enter (with_queue l (unpack img lay))
-    → Steps img lay.active none end queue (λ (m : Model). after (enter m) (released (table_of img) e (enter m).layout))
+    → Steps img (record { active = lay.active; notes = none }) end queue (λ (m : Model). after (enter m) (released (table_of img) e (enter m).layout))
     → Finished img end queue (event (table_of img) e (unpack img lay))
 unfolding event
 event_goes img lay none e queue end l enter en t el eq d =

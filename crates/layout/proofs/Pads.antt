@@ -33,6 +33,14 @@ module _ {A : Type 0} where
       let lt : i < length (take n l) = omega arith in
       rw (add-one) (drop-cons (take n l) i d lt ∙ ap (λ (x : A). x ∷ drop (suc i) (take n l)) (get_or-take n l i d h))
 
+  pub drop_next : (l : List A) (i : ℕ) (d : A) → i < length l → drop i l ≡ get_or l i d ∷ drop (i + 1) l
+  drop_next l i d h = rw (add-one) (drop-cons l i d h)
+
+  pub take_all : (l : List A) (i : ℕ) → length l ≤ i → take i l ≡ l
+  take_all [] i h = take-nil i
+  take_all (a ∷ l) zero h = absurd (omega arith)
+  take_all (a ∷ l) (suc i) h = ap (λ (x : List A). a ∷ x) (take_all l i (omega arith))
+
   pub drop_done : (l : List A) (n : ℕ) → drop n (take n l) ≡ []
   drop_done l n = drop_of_length-le (take n l) {i = n} (simp length-take (omega arith))
 

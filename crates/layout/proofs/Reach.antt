@@ -9,9 +9,8 @@ use borrow.Author.Tests.{le-leb, lt-ltb}
 use lib.ListN.{length, take, replicate, length-map, length-take}
 use lib.Seq.{take_at, drop_at}
 use Rattle.lists.specs.Lists.{every}
-use Rattle.refusal.specs.Verdict.{rule, or_else}
-use Rattle.refusal.specs.declared.Verdict.{Verdict}
-use Rattle.refusal.specs.declared.Verdict.TheVariants.{Fine, Refused}
+use Rattle.std.specs.Prelude.{Option, Some, None, Ok, Err}
+use Rattle.refusal.specs.Verdict.{Verdict, rule, or_else}
 use Rattle.image.specs.Words.{layers_of}
 use Rattle.image.specs.Tree.{tree}
 use Rattle.image.specs.Sound.{Sound}
@@ -19,50 +18,35 @@ use Rattle.image.specs.Table.{table_of}
 use Rattle.image.proofs.Accepted.{accepted}
 use Rattle.layout.specs.Model.{Queued, Model, Waiting, Idle, Waits, Done, fresh}
 use Rattle.layout.specs.Steps as step
-use Rattle.layout.specs.Packed.{pad, no_slot, no_stacked, queued_of, stacked_of, waiting_of, waiting_in, pack, unpack}
-use Rattle.layout.specs.State.{legal_state, legal_slot, waiting_good, unused_slot, unused_stacked, falling, state_good}
+use Rattle.layout.specs.Packed.{pad, no_state, no_stacked, queued_of, stacked_of, waiting_of, waiting_in, pack, unpack}
+use Rattle.layout.specs.State.{legal_state, waiting_good, unused_state, unused_stacked, falling, state_good}
 use Rattle.layout.specs.Calls.{judged_of, layout_after}
 use Rattle.layout.specs.Reach.{waits_in, Starts, FreshStarts, Reached, start, event, tick, NeverRefusedState}
 use Rattle.layout.specs.declared.active.State.{State}
-use Rattle.layout.specs.declared.active.Slot.{Slot}
-use Rattle.layout.specs.declared.active.Waiting.{Waiting as Held}
-use Rattle.layout.specs.declared.active.Waiting.TheVariants as waiting
+use Rattle.layout.specs.declared.active.WaitingState.{WaitingState}
 use Rattle.layout.specs.declared.layout.Layout.{Layout}
 use Rattle.layout.specs.declared.queue.Stacked.{Stacked}
 use Rattle.layout.proofs.States.{legal}
 use Rattle.layout.proofs.Rooted.{rooted, rooted_hold, rooted_tap}
 use Rattle.layout.proofs.Lawful.{WaitsWell, Lawful, event_lawful, tick_lawful, fresh_lawful}
 
--- states and their slots are legal together
-legal_states : (l : List Slot) → every legal_state (map (λ (s : Slot). s.state) l) ≡ every legal_slot l
-legal_states [] = refl
-legal_states (s ∷ l) = ap (λ (b : Bool). legal_state s.state && b) (legal_states l)
-
-legal_slots : (l : List State) → every legal_slot (map (λ (s : State). record { state = s }) l) ≡ every legal_state l
-legal_slots [] = refl
-legal_slots (s ∷ l) = ap (λ (b : Bool). legal_state s && b) (legal_slots l)
-
-no_slots : (n : ℕ) → every unused_slot (replicate n no_slot) ≡ true
-no_slots zero = refl
-no_slots (suc n) = no_slots n
+no_states : (n : ℕ) → every unused_state (replicate n no_state) ≡ true
+no_states zero = refl
+no_states (suc n) = no_states n
 
 no_events : (n : ℕ) → every unused_stacked (replicate n no_stacked) ≡ true
 no_events zero = refl
 no_events (suc n) = no_events n
 
-waits_well : (img : List ℕ) (w : Held) → Sound img → waiting_good img w ≡ true → WaitsWell img (waiting_of img w)
-waits_well img waiting.Nothing s h = tt
-waits_well img (waiting.On w) s h = (h, rooted_hold img (tree img w.number) (rooted img s w.number), rooted_tap img (tree img w.number) (rooted img s w.number), refl, refl)
+waits_well : (img : List ℕ) (w : Option WaitingState) → Sound img → waiting_good img w ≡ true → WaitsWell img (waiting_of img w)
+waits_well img None s h = tt
+waits_well img (Some w) s h = (h, rooted_hold img (tree img w.number) (rooted img s w.number), rooted_tap img (tree img w.number) (rooted img s w.number), refl, refl)
 
 well_waits : (img : List ℕ) (w : Waiting) → WaitsWell img w → waiting_good img (waiting_in w) ≡ true
 well_waits img Idle h = refl
 well_waits img (Waits c k i a b) h = h.0
 
--- a state in its slot and out again, a queued event in its place, and what waits, looked up again
-slots_back : (l : List State) → map (λ (s : Slot). s.state) (map (λ (s : State). record { state = s }) l) ≡ l
-slots_back [] = refl
-slots_back (s ∷ l) = ap (λ (x : List State). s ∷ x) (slots_back l)
-
+-- a queued event in its place and out again, and what waits, looked up again
 events_back : (q : List Queued) → map queued_of (map stacked_of q) ≡ q
 events_back [] = refl
 events_back (e ∷ q) = ap (λ (x : List Queued). e ∷ x) (events_back q)
@@ -76,9 +60,9 @@ pub good_lawful : (img : List ℕ) (lay : Layout) → Sound img → state_good i
 good_lawful img lay s e =
     let g = legal img lay e in
     record {
-      few = simp (length-map, length-take) (omega (arith, g.few));
+      few = simp length-take (omega (arith, g.few));
       short = simp (length-map, length-take) (omega (arith, g.short));
-      codes = legal_states _ ∙ g.codes;
+      codes = g.codes;
       base = g.base;
       ages = g.ages;
       waits = waits_well img (waits_in lay) s g.waits;
@@ -87,22 +71,20 @@ good_lawful img lay s e =
 pub lawful_good : (img : List ℕ) (l : Model) → Lawful img l → state_good img (pack l) ≡ true
 unfolding state_good
 lawful_good img l w =
-    let slots : List Slot = map (λ (s : State). record { state = s }) l.states in
-    let long : length slots ≡ length l.states = length-map l.states _ in
     let events : List Stacked = map stacked_of l.queue in
     let many : length events ≡ length l.queue = length-map l.queue stacked_of in
     rw (
       le-leb (length l.states) 64 w.few,
       le-leb (length l.queue) 16 w.short,
-      take_at slots (replicate (64 - length slots) no_slot) (length l.states) long,
-      legal_slots l.states ∙ w.codes,
+      take_at l.states (replicate (64 - length l.states) no_state) (length l.states) refl,
+      w.codes,
       lt-ltb l.base (layers_of img) w.base,
       take_at events (replicate (16 - length events) no_stacked) (length l.queue) many,
       events_back l.queue,
       w.ages,
       well_waits img l.waiting w.waits,
-      drop_at slots (replicate (64 - length slots) no_slot) (length l.states) long,
-      no_slots (64 - length slots),
+      drop_at l.states (replicate (64 - length l.states) no_state) (length l.states) refl,
+      no_states (64 - length l.states),
       drop_at events (replicate (16 - length events) no_stacked) (length l.queue) many,
     )
     (no_events (16 - length events))
@@ -110,9 +92,7 @@ lawful_good img l w =
 -- packed and looked up again it is the same
 pub unpack_pack : (img : List ℕ) (l : Model) → Lawful img l → unpack img (pack l) ≡ l
 unpack_pack img l w =
-    let slots : List Slot = map (λ (s : State). record { state = s }) l.states in
-    let states : map (λ (s : Slot). s.state) (take (length l.states) (pad 64 no_slot slots)) ≡ l.states =
-    ap (map (λ (s : Slot). s.state)) (take_at slots (replicate (64 - length slots) no_slot) (length l.states) (length-map l.states _)) ∙ slots_back l.states in
+    let states : take (length l.states) (pad 64 no_state l.states) ≡ l.states = take_at l.states (replicate (64 - length l.states) no_state) (length l.states) refl in
     let waits : waiting_of img (waiting_in l.waiting) ≡ l.waiting = well_back img l.waiting w.waits in
     let events : List Stacked = map stacked_of l.queue in
     let queue : map queued_of (take (length l.queue) (pad 16 no_stacked events)) ≡ l.queue =
@@ -144,8 +124,8 @@ pub record Packed (img : List ℕ) (lay : Layout) : Type 0 where
 
 packed_after : (img : List ℕ) (j : Verdict) (done : Done) (lay : Layout) → Packed img lay → Lawful img done.layout → Packed img (layout_after j done lay)
 unfolding layout_after
-packed_after img Fine done lay p w = record { model = done.layout; is = refl; lawful = w }
-packed_after img (Refused r place) done lay p w = p
+packed_after img (Ok u) done lay p w = record { model = done.layout; is = refl; lawful = w }
+packed_after img (Err f) done lay p w = p
 
 unpacked : (img : List ℕ) (lay : Layout) → Packed img lay → Lawful img (unpack img lay)
 unpacked img lay p = rw (p.is, unpack_pack img p.model p.lawful) p.lawful

@@ -18,8 +18,7 @@ use Rattle.image.specs.Sound.{Sound}
 use Rattle.image.specs.Table.{table_of, tree_in}
 use Rattle.image.specs.declared.record.Action.{Action as Coded}
 use Rattle.image.specs.declared.record.Action.TheVariants as code
-use Rattle.image.specs.declared.record.Cell.{Cell}
-use Rattle.image.specs.declared.record.Cell.TheVariants as cell
+use Rattle.std.specs.Prelude.{Option, Some, None}
 use Rattle.image.proofs.Accepted.{tells}
 use Rattle.layout.specs.Packed.{hold_of, tap_of}
 
@@ -74,9 +73,9 @@ module _ (img : List ℕ) where
   unfolding Rooted tree_in
   rooted_cell s layer row column = go (cell_at img layer row column)
     where
-      go : (c : Cell) → Rooted img (tree_in img c)
-      go (cell.Record n) = rooted s n
-      go cell.Outside = tt
+      go : (c : Option ℕ) → Rooted img (tree_in img c)
+      go (Some n) = rooted s n
+      go None = tt
 
   pub rooted_hold : (a : Action) → Rooted img a → Rooted img (hold_of a)
   unfolding Rooted

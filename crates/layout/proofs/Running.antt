@@ -9,6 +9,7 @@ use mathlib.Core.Path.{◌≡◌, refl, ap₂, ◌∙◌}
 use mathlib.Core.Bool.{Bool, true, false, cond, ◌&&◌, ◌||◌}
 use mathlib.Core.List.{List, [], ◌∷◌, ◌++◌, append-nil}
 use native.Mathlib.Omega.{arith}
+use Rattle.std.specs.Prelude.{Option}
 use borrow.Author.Tests.{leb-true}
 use lib.Dec.{leb, ltb}
 use lib.ListN.{length}
@@ -25,7 +26,6 @@ use Rattle.layout.specs.declared.active.State.{State}
 use Rattle.layout.specs.declared.active.State.TheVariants.{NormalKey, LayerModifier}
 use Rattle.layout.specs.declared.notes.Way.{Way}
 use Rattle.layout.specs.declared.notes.Way.TheVariants.{Tap, Hold}
-use Rattle.layout.specs.declared.queue.Found.{Found}
 
 -- every state's key is down
 unfoldable pub Down : (Coord → Bool) → List State → Type 0
@@ -73,7 +73,7 @@ kept_codes (k ∷ ks) c l = kept_after (kept_push (NormalKey k c) l) (kept_codes
 mutual
   unfolding closed do_action
 
-  pub kept : (a : Action) (n : ℕ) (c : Coord) (d : ℕ) (f : Found) (l : Model) → closed a ≡ true → Kept c l (do_action a n c d f l).layout (do_action a n c d f l).marks
+  pub kept : (a : Action) (n : ℕ) (c : Coord) (d : ℕ) (f : Option ℕ) (l : Model) → closed a ≡ true → Kept c l (do_action a n c d f l).layout (do_action a n c d f l).marks
   kept NoOp n c d f l t = kept_still c l
   kept Trans n c d f l t = kept_still c l
   kept (KeyCode k) n c d f l t = kept_push (NormalKey k c) l
@@ -83,7 +83,7 @@ mutual
   kept (DefaultLayer v) n c d f l t = kept_cond (ltb v n) c l (still (with_base v l)) (still l) (record { queue = refl; waiting = refl; marks = refl; down = λ h t d. d }) (kept_still c l)
   kept (HoldTap i x h p) n c d f l t = let z : ◌≡◌ {A = ℕ} 0 1 = cc in absurd (omega arith)
 
-  kept_all : (as' : Actions) (n : ℕ) (c : Coord) (d : ℕ) (f : Found) (l : Model) → closed_all as' ≡ true → Kept c l (do_actions as' n c d f l).layout (do_actions as' n c d f l).marks
+  kept_all : (as' : Actions) (n : ℕ) (c : Coord) (d : ℕ) (f : Option ℕ) (l : Model) → closed_all as' ≡ true → Kept c l (do_actions as' n c d f l).layout (do_actions as' n c d f l).marks
   kept_all end n c d f l t = kept_still c l
   kept_all (a & as') n c d f l t =
       let u = both_true (closed a) (closed_all as') t in
@@ -113,7 +113,7 @@ ran_then x q = record { queue = q.queue ∙ x.queue; comes = rw x.marks q.comes;
 ran_now : (m : Times) (d : ℕ) {c : Coord} {l k : Model} {ms : List Mark} (way : Way) → Kept c (with_waiting Idle l) k ms → Ran m c d l k (Begun c ∷ Decided c way ∷ ms)
 ran_now m d way x = record { queue = x.queue; comes = rw (x.marks, x.waiting) (settled way); down = x.down }
 
-ran_begins : (m : Times) (i t : ℕ) (h p : Action) (n : ℕ) (c : Coord) (d : ℕ) (f : Found) (l : Model) (v : Ruling) → t ≤ m.first → holdable h m ≡ true → closed p ≡ true
+ran_begins : (m : Times) (i t : ℕ) (h p : Action) (n : ℕ) (c : Coord) (d : ℕ) (f : Option ℕ) (l : Model) (v : Ruling) → t ≤ m.first → holdable h m ≡ true → closed p ≡ true
     → let r = begins v c (with_waiting (Waits c (t - d) i h p) l) (do_action p n c 0 f (with_waiting Idle l)) (do_action h n c 0 f (with_waiting Idle l)) in
     Ran m c d l r.layout r.marks
 unfolding holdable
@@ -122,7 +122,7 @@ ran_begins m i t h p n c d f l (AtOnce Tap) le th tp = ran_now m d Tap (kept p n
 ran_begins m i t h p n c d f l (AtOnce Hold) le th tp = ran_now m d Hold (kept h n c 0 f (with_waiting Idle l) th)
 
 -- either the entry is closed, or it is the last
-ran_join : (m : Times) (a : Action) (as' : Actions) (n : ℕ) (c : Coord) (d : ℕ) (f : Found) (l : Model) (b : Bool) → l.waiting ≡ Idle
+ran_join : (m : Times) (a : Action) (as' : Actions) (n : ℕ) (c : Coord) (d : ℕ) (f : Option ℕ) (l : Model) (b : Bool) → l.waiting ≡ Idle
     → closed a ≡ b → b || is_end as' ≡ true → Ran m c d l (do_action a n c d f l).layout (do_action a n c d f l).marks
     → ((k : Model) → k.waiting ≡ Idle → Ran m c d k (do_actions as' n c d f k).layout (do_actions as' n c d f k).marks)
     → let r = after (do_action a n c d f l) (do_actions as' n c d f (do_action a n c d f l).layout) in Ran m c d l r.layout r.marks
@@ -136,7 +136,7 @@ ran_join m a (b & bs) n c d f l false e ea t r next = let z : ◌≡◌ {A = ℕ
 mutual
   unfolding closed proper do_action
 
-  pub ran : (a : Action) (m : Times) (n : ℕ) (c : Coord) (d : ℕ) (f : Found) (l : Model) → proper a m ≡ true → l.waiting ≡ Idle → Ran m c d l (do_action a n c d f l).layout (do_action a n c d f l).marks
+  pub ran : (a : Action) (m : Times) (n : ℕ) (c : Coord) (d : ℕ) (f : Option ℕ) (l : Model) → proper a m ≡ true → l.waiting ≡ Idle → Ran m c d l (do_action a n c d f l).layout (do_action a n c d f l).marks
   ran NoOp m n c d f l t e = ran_kept m d e (kept NoOp n c d f l refl)
   ran Trans m n c d f l t e = ran_kept m d e (kept Trans n c d f l refl)
   ran (KeyCode k) m n c d f l t e = ran_kept m d e (kept (KeyCode k) n c d f l refl)
@@ -149,7 +149,7 @@ mutual
       let y = both_true (holdable h m) (closed p) u.1 in
       ran_begins m i x h p n c d f l (ruling x d f) (leb-true x m.first u.0) y.0 y.1
 
-  ran_all : (as' : Actions) (m : Times) (n : ℕ) (c : Coord) (d : ℕ) (f : Found) (l : Model) → proper_all as' m ≡ true → l.waiting ≡ Idle → Ran m c d l (do_actions as' n c d f l).layout (do_actions as' n c d f l).marks
+  ran_all : (as' : Actions) (m : Times) (n : ℕ) (c : Coord) (d : ℕ) (f : Option ℕ) (l : Model) → proper_all as' m ≡ true → l.waiting ≡ Idle → Ran m c d l (do_actions as' n c d f l).layout (do_actions as' n c d f l).marks
   ran_all end m n c d f l t e = ran_kept m d e (kept_all end n c d f l refl)
   ran_all (a & as') m n c d f l t e =
       let u = both_true ((closed a || is_end as') && proper a m) (proper_all as' m) t in

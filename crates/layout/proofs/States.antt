@@ -16,42 +16,22 @@ use Rattle.image.specs.Tree.{Action, meaning}
 use Rattle.image.specs.declared.record.Action.{Action as Coded}
 use Rattle.image.specs.declared.record.Action.TheVariants as code
 use Rattle.layout.specs.Model.{Queued}
-use Rattle.layout.specs.Packed.{no_slot, no_stacked, queued_of, list_in}
-use Rattle.layout.specs.State.{legal_slot, falling, may_wait, waiting_good, unused_state, unused_slot, unused_event, unused_stacked, state_good}
+use Rattle.layout.specs.Packed.{no_state, no_stacked, queued_of, list_in}
+use Rattle.layout.specs.State.{legal_state, falling, may_wait, waiting_good, unused_state, unused_event, unused_stacked, state_good}
 use Rattle.layout.specs.Inside.{Tidy, Lined}
 use Rattle.layout.specs.declared.active.State.{State}
 use Rattle.layout.specs.declared.active.State.TheVariants.{NormalKey, LayerModifier}
-use Rattle.layout.specs.declared.active.Slot.{Slot}
 use Rattle.layout.specs.declared.queue.Stacked.{Stacked}
 use Rattle.layout.specs.declared.layout.Layout.{Layout}
 use Rattle.layout.proofs.Pads.{drop_one, padded}
 
--- among the first n, from a place on
-module _ {A : Type 0} (p : A → Bool) (l : List A) (n i : ℕ) (d : A) (h : i < n) (long : n ≤ length l) where
-  pub every_next : p (get_or l i d) ≡ true → every p (drop i (take n l)) ≡ every p (drop (i + 1) (take n l))
-  every_next e = rw (drop_one l n i d h long, e)
-
-  pub every_stop : p (get_or l i d) ≡ false → every p (drop i (take n l)) ≡ false
-  every_stop e = rw (drop_one l n i d h long, e)
-
--- the ages of two that follow each other
-module _ (l : List Stacked) (n i : ℕ) (d : Stacked) (h : i + 1 < n) (long : n ≤ length l) where
-  abbrev from : ℕ → List Queued
-  from k = map queued_of (drop k (take n l))
-
-  next_on : from (i + 1) ≡ queued_of (get_or l (i + 1) d) ∷ from (i + 1 + 1)
-  next_on = ap (map queued_of) (drop_one l n (i + 1) d h long)
-
-  two_on : from i ≡ queued_of (get_or l i d) ∷ (queued_of (get_or l (i + 1) d) ∷ from (i + 1 + 1))
-  two_on = ap (map queued_of) (drop_one l n i d (omega arith) long) ∙ ap (λ (x : List Queued). queued_of (get_or l i d) ∷ x) next_on
-
-  pub falling_next : (get_or l (i + 1) d).since ≤ (get_or l i d).since → falling (from i) ≡ falling (from (i + 1))
-  unfolding falling
-  falling_next e = ap falling two_on ∙ rw (le-leb _ _ e) (sym (ap falling next_on))
-
-  pub falling_stop : (get_or l i d).since < (get_or l (i + 1) d).since → falling (from i) ≡ false
-  unfolding falling
-  falling_stop e = ap falling two_on ∙ rw (lt-leb _ _ e)
+-- the ages of two that follow each other, where the others stand behind them
+pub falling_pair : (l pair : List Stacked) (d : Stacked) → 2 ≤ length l → pair ≡ take 2 l
+    → falling (map queued_of l) ≡ leb (get_or pair 1 d).since (get_or pair 0 d).since && falling (map queued_of (drop 1 l))
+unfolding falling
+falling_pair [] pair d h e = absurd (omega arith)
+falling_pair (a ∷ []) pair d h e = absurd (omega arith)
+falling_pair (a ∷ (b ∷ l)) pair d h e = rw e
 
 pub falling_short : (l : List Queued) → length l ≤ 1 → falling l ≡ true
 unfolding falling
@@ -75,11 +55,11 @@ no_wait img n t (code.HoldTap w k p) left h = absurd (h w k p refl)
 pub record Legal (img : List ℕ) (lay : Layout) : Type 0 where
   pub few : lay.active.len ≤ 64
   pub short : lay.queue.queued ≤ 16
-  pub codes : every legal_slot (take lay.active.len lay.active.states) ≡ true
+  pub codes : every legal_state (take lay.active.len lay.active.states) ≡ true
   pub base : lay.active.default_layer < layers_of img
   pub ages : falling (list_in lay.queue) ≡ true
   pub waits : waiting_good img lay.active.waiting ≡ true
-  pub slots : every unused_slot (drop lay.active.len lay.active.states) ≡ true
+  pub slots : every unused_state (drop lay.active.len lay.active.states) ≡ true
   pub events : every unused_stacked (drop lay.queue.queued lay.queue.stacked) ≡ true
 
 pub legal : (img : List ℕ) (lay : Layout) → state_good img lay ≡ true → Legal img lay
@@ -87,11 +67,11 @@ unfolding state_good
 legal img lay e =
     let a = both_true (leb lay.active.len 64) _ e in
     let b = both_true (leb lay.queue.queued 16) _ a.1 in
-    let c = both_true (every legal_slot (take lay.active.len lay.active.states)) _ b.1 in
+    let c = both_true (every legal_state (take lay.active.len lay.active.states)) _ b.1 in
     let d = both_true (ltb lay.active.default_layer (layers_of img)) _ c.1 in
     let f = both_true (falling (list_in lay.queue)) _ d.1 in
     let g = both_true (waiting_good img lay.active.waiting) _ f.1 in
-    let h = both_true (every unused_slot (drop lay.active.len lay.active.states)) (every unused_stacked (drop lay.queue.queued lay.queue.stacked)) g.1 in
+    let h = both_true (every unused_state (drop lay.active.len lay.active.states)) (every unused_stacked (drop lay.queue.queued lay.queue.stacked)) g.1 in
     record {
       few = leb-true lay.active.len 64 a.0;
       short = leb-true lay.queue.queued 16 b.0;
@@ -120,9 +100,6 @@ unused_event_lem (Release i j) h =
     rw (eqb-true i 0 b.0, eqb-true j 0 b.1)
 unused_event_lem (Press i j) h = let z : ◌≡◌ {A = ℕ} 0 1 = cc in absurd (omega arith)
 
-unused_slot_lem : (s : Slot) → unused_slot s ≡ true → s ≡ no_slot
-unused_slot_lem s h = ap (λ (x : State). record { state = x }) (unused_state_lem s.state h)
-
 unused_stacked_lem : (s : Stacked) → unused_stacked s ≡ true → s ≡ no_stacked
 unused_stacked_lem s h =
     let a = both_true (eqb s.since 0) (unused_event s.event) h in
@@ -137,7 +114,7 @@ all_are {A} p z is (a ∷ l) h = let b = both_true (p a) (every p l) h in rw (is
 module _ (img : List ℕ) (lay : Layout) (g : Legal img lay) where
   pub legal_tidy : length lay.active.states ≡ 64 → Tidy lay.active
   legal_tidy e =
-      record { few = g.few; clean = padded 64 lay.active.len no_slot lay.active.states e g.few (all_are unused_slot no_slot unused_slot_lem (drop lay.active.len lay.active.states) g.slots ∙ rw (length-drop, e)) }
+      record { few = g.few; clean = padded 64 lay.active.len no_state lay.active.states e g.few (all_are unused_state no_state unused_state_lem (drop lay.active.len lay.active.states) g.slots ∙ rw (length-drop, e)) }
 
   pub legal_lined : length lay.queue.stacked ≡ 16 → Lined lay.queue
   legal_lined e =

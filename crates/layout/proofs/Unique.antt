@@ -7,13 +7,9 @@ use Rattle.layout.specs.contracts.layout.Layout.new as N
 use Rattle.layout.specs.contracts.layout.Layout.event as E
 use Rattle.layout.specs.contracts.layout.Layout.tick as T
 use Rattle.layout.specs.contracts.layout.Layout.keycodes as K
-use Rattle.layout.specs.contracts.answer.Answer.told as A
 
 pub new : Decides N.ended (λ M 𝓤 𝓛. N.spec 𝓛) (λ M 𝓤 𝓛. N.clauses 𝓛)
 new M 𝓤 𝓛 m r = record { same = refl; free = λ κs a g. refl; only = λ κs a g g' x x' ws ws'. both 𝓤 _ _ _ (λ p q. (p ∙ sym q, refl)) }
-
-pub told : Decides A.ended (λ M 𝓤 𝓛. A.spec 𝓛) (λ M 𝓤 𝓛. A.clauses 𝓛)
-told M 𝓤 𝓛 m r = record { same = refl; free = λ κs a g. refl; only = λ κs a g g' x x' ws ws'. both 𝓤 _ _ _ (λ p q. (p ∙ sym q, refl)) }
 
 pub event : Decides E.ended (λ M 𝓤 𝓛. E.spec 𝓛) (λ M 𝓤 𝓛. E.clauses 𝓛)
 event M 𝓤 𝓛 m r = record { same = refl; free = λ κs a g. refl; only = λ κs a g g' x x' ws ws'. both 𝓤 _ _ _ (λ p q. let h = handed_one _ _ _ _ (p ∙ sym q) in (h.0, ap (λ w. (tt, (tt, (tt, (w, tt))))) h.1)) }

@@ -1,7 +1,7 @@
 -- Running an action: document 01, Layout, the last item of its list, and the rules of its first paragraph on DefaultLayer
 -- and on a full list of states. Each step leaves a `Done`, so that a later mark moves no shape.
 -- Assumes nothing.
-use Rattle.std.specs.Prelude.{ℕ, ◌-◌, Bool, false, cond, List, [], ◌∷◌, ◌++◌, leb, ltb, length}
+use Rattle.std.specs.Prelude.{ℕ, ◌-◌, Bool, false, cond, List, [], ◌∷◌, ◌++◌, leb, ltb, length, Option, Some, None}
 use Rattle.event.specs.declared.Coord.{Coord}
 use Rattle.event.specs.declared.Event.{Event}
 use Rattle.event.specs.declared.Event.TheVariants.{Release, Press}
@@ -11,8 +11,6 @@ use Rattle.layout.specs.declared.active.State.{State}
 use Rattle.layout.specs.declared.active.State.TheVariants.{NormalKey, LayerModifier}
 use Rattle.layout.specs.declared.notes.Way.{Way}
 use Rattle.layout.specs.declared.notes.Way.TheVariants.{Tap, Hold}
-use Rattle.layout.specs.declared.queue.Found.{Found}
-use Rattle.layout.specs.declared.queue.Found.TheVariants.{None, At}
 
 -- one state more, kept if there is room, else dropped: Layout, first paragraph; document 02, W-202
 unfoldable pub push : State → Model → Done
@@ -29,9 +27,9 @@ is_release c (Release i j) = same c (record { i = i; j = j })
 is_release c (Press i j) = false
 
 -- the age of the first queued release of the coordinates
-unfoldable pub find : Coord → List Queued → Found
+unfoldable pub find : Coord → List Queued → Option ℕ
 find c [] = None
-find c (q ∷ qs) = cond (is_release c q.event) (At (age_of q)) (find c qs)
+find c (q ∷ qs) = cond (is_release c q.event) (Some (age_of q)) (find c qs)
 
 -- what a queued release says of a hold-tap that begins: nothing, or how it is decided at once
 pub data Ruling : Type 0 where
@@ -39,9 +37,9 @@ pub data Ruling : Type 0 where
   AtOnce : Way → Ruling
 
 -- Layout, HoldTap: what the first queued release decides. Nothing is subtracted below 0
-unfoldable pub ruling : ℕ → ℕ → Found → Ruling
+unfoldable pub ruling : ℕ → ℕ → Option ℕ → Ruling
 ruling timeout delay None = Undecided
-ruling timeout delay (At age) = AtOnce (cond (leb (delay - age) timeout) Tap Hold)
+ruling timeout delay (Some age) = AtOnce (cond (leb (delay - age) timeout) Tap Hold)
 
 -- a hold-tap begins, and with a queued release it is decided in the same step
 abbrev pub begins : Ruling → Coord → Model → Done → Done → Done
@@ -52,7 +50,7 @@ begins (AtOnce Hold) c waits tapped held = marked (Begun c) (marked (Decided c H
 -- an action runs in a table of n layers, at the coordinates c, with the delay d, where f is the first queued release of
 -- them. The queue is not changed, so f stays the same while an action and the hold-tap that it decides run each other
 unfoldable mutual
-  pub do_action : Action → ℕ → Coord → ℕ → Found → Model → Done
+  pub do_action : Action → ℕ → Coord → ℕ → Option ℕ → Model → Done
   do_action NoOp n c d f l = still l
   do_action Trans n c d f l = still l
   do_action (KeyCode k) n c d f l = push (NormalKey k c) l
@@ -66,7 +64,7 @@ unfoldable mutual
       (do_action tap n c 0 f (with_waiting Idle l))
       (do_action hold n c 0 f (with_waiting Idle l))
 
-  pub do_actions : Actions → ℕ → Coord → ℕ → Found → Model → Done
+  pub do_actions : Actions → ℕ → Coord → ℕ → Option ℕ → Model → Done
   do_actions end n c d f l = still l
   do_actions (action & actions) n c d f l = let r = do_action action n c d f l in after r (do_actions actions n c d f r.layout)
 
@@ -75,5 +73,5 @@ abbrev pub chosen : Way → Action → Action → Action
 chosen Tap hold tap = tap
 chosen Hold hold tap = hold
 
-unfoldable pub decided : Way → Action → Action → ℕ → Coord → Found → Model → Done
+unfoldable pub decided : Way → Action → Action → ℕ → Coord → Option ℕ → Model → Done
 decided way hold tap n c f l = marked (Decided c way) (do_action (chosen way hold tap) n c 0 f (with_waiting Idle l))

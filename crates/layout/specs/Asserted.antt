@@ -7,7 +7,7 @@
 --     FirstYounger  in a queue whose ages fall, the first release of a key is no older than the event before it
 --     NeverBelow    so where State is not given, the difference is never below 0
 -- Assumes nothing.
-use Rattle.std.specs.Prelude.{ℕ, ◌-◌, ◌≤◌, ◌≡◌, true, false, List, [], ◌∷◌, ltb, length}
+use Rattle.std.specs.Prelude.{ℕ, ◌-◌, ◌≤◌, ◌≡◌, true, false, List, [], ◌∷◌, ltb, length, Option, Some, None, Ok}
 use Rattle.event.specs.declared.Coord.{Coord}
 use Rattle.event.specs.declared.Event.{Event}
 use Rattle.event.specs.declared.Event.TheVariants.{Release, Press}
@@ -15,7 +15,6 @@ use Rattle.image.specs.Check.{check_of}
 use Rattle.image.specs.Tree.{Action, Actions, NoOp, Trans, KeyCode, MultipleKeyCodes, MultipleActions, Layer, DefaultLayer, HoldTap, end, ◌&◌}
 use Rattle.image.specs.Table.{Table, table_of}
 use Rattle.image.specs.declared.words.Shape.{Shape}
-use Rattle.image.specs.declared.rules.Checked.TheVariants.{Accepted}
 use Rattle.layout.specs.Model.{Queued, Model, Waiting, Idle, Waits, age_of, with_waiting, with_queue}
 use Rattle.layout.specs.Actions.{find, do_action, chosen}
 use Rattle.layout.specs.Steps.{pressed, into_hold, releases, appended, entered, older}
@@ -23,22 +22,20 @@ use Rattle.layout.specs.Packed.{unpack}
 use Rattle.layout.specs.State.{falling, state_good}
 use Rattle.layout.specs.declared.notes.Way.{Way}
 use Rattle.layout.specs.declared.notes.Way.TheVariants.{Tap, Hold}
-use Rattle.layout.specs.declared.queue.Found.{Found}
-use Rattle.layout.specs.declared.queue.Found.TheVariants.{None, At}
 use Rattle.layout.specs.declared.layout.Layout.{Layout}
 
 -- a fact of a moment: the action that begins, its delay, the first queued release and the layout
 abbrev pub Fact : Type 1
-Fact = Action → ℕ → Found → Model → Type 0
+Fact = Action → ℕ → Option ℕ → Model → Type 0
 
 -- nothing waits, whichever action it is
 abbrev pub NothingWaits : Fact
 NothingWaits a d f l = l.waiting ≡ Idle
 
 -- the release that is found is no older than the delay
-abbrev pub NoOlder : ℕ → Found → Type 0
+abbrev pub NoOlder : ℕ → Option ℕ → Type 0
 NoOlder d None = Unit
-NoOlder d (At age) = age ≤ d
+NoOlder d (Some age) = age ≤ d
 
 -- so the difference of delay and age, which a HoldTap alone takes, is not below 0
 abbrev pub NotBelow : Fact
@@ -53,7 +50,7 @@ NotBelow (HoldTap i timeout hold tap) d f l = NoOlder d f
 
 -- of the action itself, of each that it names, and of those that a decision runs
 unfoldable mutual
-  pub RunsSo : Fact → Action → ℕ → Coord → ℕ → Found → Model → Type 0
+  pub RunsSo : Fact → Action → ℕ → Coord → ℕ → Option ℕ → Model → Type 0
   RunsSo P NoOp n c d f l = P NoOp d f l
   RunsSo P Trans n c d f l = P Trans d f l
   RunsSo P (KeyCode k) n c d f l = P (KeyCode k) d f l
@@ -64,7 +61,7 @@ unfoldable mutual
   RunsSo P (HoldTap i timeout hold tap) n c d f l =
       P (HoldTap i timeout hold tap) d f l × RunsSo P tap n c 0 f (with_waiting Idle l) × RunsSo P hold n c 0 f (with_waiting Idle l)
 
-  pub AllRunSo : Fact → Actions → ℕ → Coord → ℕ → Found → Model → Type 0
+  pub AllRunSo : Fact → Actions → ℕ → Coord → ℕ → Option ℕ → Model → Type 0
   AllRunSo P end n c d f l = Unit
   AllRunSo P (action & actions) n c d f l = RunsSo P action n c d f l × AllRunSo P actions n c d f (do_action action n c d f l).layout
 
@@ -110,11 +107,11 @@ pub record CallsSo (P : Fact) (img : List ℕ) (lay : Layout) : Type 0 where
   pub tick : TickSo P (table_of img) (unpack img lay)
 
 unfoldable pub NeverWaits : Type 0
-NeverWaits = (img : List ℕ) (shape : Shape) → check_of img ≡ Accepted shape → (lay : Layout) → CallsSo NothingWaits img lay
+NeverWaits = (img : List ℕ) (shape : Shape) → check_of img ≡ Ok shape → (lay : Layout) → CallsSo NothingWaits img lay
 
 unfoldable pub FirstYounger : Type 0
-FirstYounger = (q : Queued) (qs : List Queued) → falling (q ∷ qs) ≡ true → (c : Coord) (age : ℕ) → find c qs ≡ At age → age ≤ age_of q
+FirstYounger = (q : Queued) (qs : List Queued) → falling (q ∷ qs) ≡ true → (c : Coord) (age : ℕ) → find c qs ≡ Some age → age ≤ age_of q
 
 unfoldable pub NeverBelow : Type 0
 NeverBelow =
-    (img : List ℕ) (shape : Shape) → check_of img ≡ Accepted shape → (lay : Layout) → state_good img lay ≡ true → CallsSo NotBelow img lay
+    (img : List ℕ) (shape : Shape) → check_of img ≡ Ok shape → (lay : Layout) → state_good img lay ≡ true → CallsSo NotBelow img lay

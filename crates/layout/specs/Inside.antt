@@ -1,39 +1,32 @@
 -- What the private functions promise: how the parts of a layout and the lists that they stand for go together.
 -- Assumes nothing.
-use Rattle.std.specs.Prelude.{◌≡◌, List, ℕ, ◌-◌, ◌≤◌, length, take}
+use Rattle.std.specs.Prelude.{◌≡◌, List, ℕ, ◌-◌, ◌≤◌, length, take, Option, Some, Result, Ok}
 use Rattle.lists.specs.Lists.{laid}
-use Rattle.refusal.specs.declared.Verdict.{Verdict}
-use Rattle.refusal.specs.declared.Verdict.TheVariants.{Fine, Refused}
+use Rattle.refusal.specs.Verdict.{granted}
+use Rattle.refusal.specs.declared.Fault.{Fault}
 use Rattle.event.specs.declared.Coord.{Coord}
 use Rattle.image.specs.Words.{layers_of}
 use Rattle.image.specs.Sound.{Sound}
 use Rattle.image.specs.Table.{table_of, tree_in}
-use Rattle.image.specs.declared.record.Cell.{Cell}
 use Rattle.layout.specs.Model.{Queued, Model, Done, age_of, with_waiting}
-use Rattle.layout.specs.Actions.{find}
 use Rattle.layout.specs.Steps.{codes, pressed, act, into, tick_wait}
-use Rattle.layout.specs.Packed.{pad, no_slot, no_stacked, states_in, queued_of, list_in, waiting_of, waits_at, model_of}
-use Rattle.layout.specs.Notes.{no_notes, noted}
+use Rattle.layout.specs.Packed.{pad, no_state, no_stacked, states_in, queued_of, list_in, waiting_of, waits_at, model_of}
+use Rattle.layout.specs.Notes.{noted}
 use Rattle.layout.specs.Calls.{judged_of}
 use Rattle.layout.specs.declared.active.Active.{Active}
 use Rattle.layout.specs.declared.active.WaitingState.{WaitingState}
-use Rattle.layout.specs.declared.active.Waiting.TheVariants as waiting
 use Rattle.layout.specs.declared.notes.Notes.{Notes}
 use Rattle.layout.specs.declared.notes.Way.{Way}
 use Rattle.layout.specs.declared.queue.Stacked.{Stacked}
 use Rattle.layout.specs.declared.queue.Queue.{Queue}
-use Rattle.layout.specs.declared.action.Setting.{Setting}
 use Rattle.layout.specs.declared.effect.Progress.{Progress}
-use Rattle.layout.specs.declared.answer.Answer.{Answer}
-use Rattle.layout.specs.declared.answer.Answer.TheVariants as answer
 use Rattle.layout.specs.declared.answer.Answered.{Answered}
 use Rattle.layout.specs.declared.layout.Layout.{Layout}
-use Rattle.layout.specs.declared.layout.Judged.{Judged}
 
 -- the count is within the array, and the unused places are zero
 pub record Tidy (active : Active) : Type 0 where
   pub few : active.len ≤ 64
-  pub clean : pad 64 no_slot (take active.len active.states) ≡ active.states
+  pub clean : pad 64 no_state (take active.len active.states) ≡ active.states
 
 pub record Lined (queue : Queue) : Type 0 where
   pub few : queue.queued ≤ 16
@@ -57,15 +50,11 @@ pub record Did (img : List ℕ) (before : Notes) (end : Progress) (q : List Queu
   pub is : model_of img end.active q ≡ done.layout
   pub notes : end.notes ≡ noted before done
 
-abbrev pub Steps : List ℕ → Active → Notes → Progress → Queue → (Model → Done) → Type 0
-Steps img active notes end queue step = Did img notes end (list_in queue) (step (model_of img active (list_in queue)))
-
--- where what waits is decided
-abbrev pub setting_of : ℕ → Queue → Coord → Setting
-setting_of layers queue c = record { layers = layers; coord = c; delay = 0; found = find c (list_in queue) }
+abbrev pub Steps : List ℕ → Progress → Progress → Queue → (Model → Done) → Type 0
+Steps img begun end queue step = Did img begun.notes end (list_in queue) (step (model_of img begun.active (list_in queue)))
 
 -- the record that a press runs
-abbrev pub PressedTo : List ℕ → Active → Coord → Cell → Type 0
+abbrev pub PressedTo : List ℕ → Active → Coord → Option ℕ → Type 0
 PressedTo img active c cell = (q : List Queued) → tree_in img cell ≡ pressed (table_of img) c (model_of img active q)
 
 -- a queued event is acted on, with its age; what waits becomes tap or hold; and a tick of it
@@ -73,23 +62,17 @@ abbrev pub unstacked : List ℕ → Stacked → Model → Done
 unstacked img s l = act (table_of img) s.event (age_of (queued_of s)) l
 
 abbrev pub becomes : List ℕ → Way → WaitingState → Model → Done
-becomes img way w l = into way (table_of img) (waiting_of img (waiting.On w)) l
+becomes img way w l = into way (table_of img) (waiting_of img (Some w)) l
 
 abbrev pub waited_one : List ℕ → WaitingState → Model → Done
 waited_one img w l = tick_wait (table_of img) (w.left - 1) (with_waiting (waiting_of img (waits_at w.coord (w.left - 1) w.number)) l)
 
 -- what a call judges, and how many layers it goes on with
-pub record JudgedSo (img : List ℕ) (lay : Layout) (room : ℕ) (judged : Judged) : Type 0 where
-  pub verdict : judged.verdict ≡ judged_of img lay room
-  pub layers : judged.verdict ≡ Fine → judged.layers ≡ layers_of img
-
--- the answer of a call that is refused, and of one that did nothing yet
-abbrev pub refused_as : Verdict → Answer
-refused_as Fine = answer.Done 0 no_notes
-refused_as (Refused r place) = answer.Refused r place
+abbrev pub judged_layers : List ℕ → Layout → ℕ → Result ℕ Fault
+judged_layers img lay room = granted (judged_of img lay room) (layers_of img)
 
 -- the answer of a call that was not refused, and its buffer
 abbrev pub Handed : Progress → Queue → Answered → List ℕ → List ℕ → Type 0
 Handed end queue r buffer after =
     let held = codes (states_in end.active) in
-    (r ≡ record { answer = answer.Done (length held) end.notes; layout = record { active = end.active; queue = queue } }) × (after ≡ laid held buffer)
+    (r ≡ record { answer = Ok (record { codes = length held; notes = end.notes }); layout = record { active = end.active; queue = queue } }) × (after ≡ laid held buffer)

@@ -1,12 +1,11 @@
 -- The limits of a call: document 01, Layout, its last paragraph. Over an accepted image, whatever the layout, a call acts on
 -- at most one event; a tick makes at most one decision and an event at most two.
 -- Assumes nothing.
-use Rattle.std.specs.Prelude.{ℕ, ◌≤◌, ◌≡◌, List, length}
+use Rattle.std.specs.Prelude.{ℕ, ◌≤◌, ◌≡◌, List, length, Ok}
 use Rattle.event.specs.declared.Event.{Event}
 use Rattle.image.specs.Check.{check_of}
 use Rattle.image.specs.Table.{table_of}
 use Rattle.image.specs.declared.words.Shape.{Shape}
-use Rattle.image.specs.declared.rules.Checked.TheVariants.{Accepted}
 use Rattle.layout.specs.Model.{Mark}
 use Rattle.layout.specs.Steps.{event, tick}
 use Rattle.layout.specs.Packed.{unpack}
@@ -24,4 +23,4 @@ pub record Limited (img : List ℕ) (lay : Layout) : Type 0 where
   pub tick : Limits 1 (tick (table_of img) (unpack img lay)).marks
 
 unfoldable pub AtMost : Type 0
-AtMost = (img : List ℕ) (shape : Shape) → check_of img ≡ Accepted shape → (lay : Layout) → Limited img lay
+AtMost = (img : List ℕ) (shape : Shape) → check_of img ≡ Ok shape → (lay : Layout) → Limited img lay

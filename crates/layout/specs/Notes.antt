@@ -1,33 +1,30 @@
 -- What a step comes to in the notes of an answer: its marks (document 01, Layout, the last paragraph) and how many states it
 -- dropped (document 02, W-202). The notes have a place for each decision, by its position among those of the call.
 -- Assumes nothing.
-use Rattle.std.specs.Prelude.{ℕ, zero, suc, ◌+◌, min, List, [], ◌∷◌, ◌++◌}
+use Rattle.std.specs.Prelude.{ℕ, zero, suc, ◌+◌, min, List, [], ◌∷◌, ◌++◌, Option, Some, None}
 use Rattle.event.specs.declared.Coord.{Coord}
 use Rattle.event.specs.declared.Event.{Event}
 use Rattle.layout.specs.Model.{Mark, Acted, Begun, Decided, Done}
 use Rattle.layout.specs.declared.notes.Way.{Way}
 use Rattle.layout.specs.declared.notes.Decision.{Decision}
-use Rattle.layout.specs.declared.notes.Decision.TheVariants as decision
-use Rattle.layout.specs.declared.notes.Acted.{Acted as ActedOn}
-use Rattle.layout.specs.declared.notes.Acted.TheVariants as acted
 use Rattle.layout.specs.declared.notes.Notes.{Notes}
 
 -- no event acted on, no decision, no state dropped
 abbrev pub no_notes : Notes
-no_notes = record { acted = acted.Nothing; made = 0; first = decision.Nothing; second = decision.Nothing; dropped = 0 }
+no_notes = record { acted = None; made = 0; first = None; second = None; dropped = 0 }
 
 -- an event is acted on
 abbrev pub note_acted : Notes → Event → Notes
-note_acted n e = record { acted = acted.On e; made = n.made; first = n.first; second = n.second; dropped = n.dropped }
+note_acted n e = record { acted = Some e; made = n.made; first = n.first; second = n.second; dropped = n.dropped }
 
 -- a decision behind so many; there is room for two
-abbrev pub decision_at : ℕ → Decision → Notes → Notes
+abbrev pub decision_at : ℕ → Option Decision → Notes → Notes
 decision_at zero d n = record { acted = n.acted; made = 1; first = d; second = n.second; dropped = n.dropped }
 decision_at (suc zero) d n = record { acted = n.acted; made = 2; first = n.first; second = d; dropped = n.dropped }
 decision_at (suc (suc k)) d n = n
 
 abbrev pub note_decision : Notes → Coord → Way → Notes
-note_decision n c way = decision_at n.made (decision.Made c way) n
+note_decision n c way = decision_at n.made (Some (record { coord = c; way = way })) n
 
 -- the marks of a step, in their order, put into the notes
 unfoldable pub noted_marks : Notes → List Mark → Notes
@@ -56,9 +53,9 @@ decisions (Acted e ∷ marks) = decisions marks
 decisions (Begun c ∷ marks) = decisions marks
 decisions (Decided c way ∷ marks) = (c, way) ∷ decisions marks
 
-abbrev pub made : Decision → List (Coord × Way)
-made decision.Nothing = []
-made (decision.Made c way) = (c, way) ∷ []
+abbrev pub made : Option Decision → List (Coord × Way)
+made None = []
+made (Some d) = (d.coord, d.way) ∷ []
 
 abbrev pub made_in : Notes → List (Coord × Way)
 made_in notes = made notes.first ++ made notes.second
@@ -70,6 +67,6 @@ acted_on (Acted e ∷ marks) = e ∷ acted_on marks
 acted_on (Begun c ∷ marks) = acted_on marks
 acted_on (Decided c way ∷ marks) = acted_on marks
 
-abbrev pub acted_in : ActedOn → List Event
-acted_in acted.Nothing = []
-acted_in (acted.On e) = e ∷ []
+abbrev pub acted_in : Option Event → List Event
+acted_in None = []
+acted_in (Some e) = e ∷ []

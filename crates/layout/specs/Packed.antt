@@ -1,16 +1,14 @@
 -- A layout as the code holds it, in arrays whose unused places are zero, and the same as lists. Document 01, Layout and "What
 -- must change shape".
 -- Assumes nothing.
-use Rattle.std.specs.Prelude.{ℕ, ◌-◌, List, ◌++◌, map, length, take, replicate}
+use Rattle.std.specs.Prelude.{ℕ, ◌-◌, List, ◌++◌, map, length, take, replicate, Option, Some, None}
 use Rattle.event.specs.declared.Coord.{Coord}
 use Rattle.event.specs.declared.Event.TheVariants.{Release}
 use Rattle.image.specs.Tree.{Action, NoOp, Trans, KeyCode, MultipleKeyCodes, MultipleActions, Layer, DefaultLayer, HoldTap, tree}
 use Rattle.layout.specs.Model.{Queued, Model, Waiting, Idle, Waits}
 use Rattle.layout.specs.declared.active.State.{State}
 use Rattle.layout.specs.declared.active.State.TheVariants.{NormalKey}
-use Rattle.layout.specs.declared.active.Slot.{Slot}
-use Rattle.layout.specs.declared.active.Waiting.{Waiting as WaitingIn}
-use Rattle.layout.specs.declared.active.Waiting.TheVariants as waiting
+use Rattle.layout.specs.declared.active.WaitingState.{WaitingState}
 use Rattle.layout.specs.declared.active.Active.{Active}
 use Rattle.layout.specs.declared.queue.Stacked.{Stacked}
 use Rattle.layout.specs.declared.queue.Queue.{Queue}
@@ -21,8 +19,8 @@ abbrev pub pad : {A : Type 0} → ℕ → A → List A → List A
 pad n z l = l ++ replicate (n - length l) z
 
 -- what an unused place holds
-abbrev pub no_slot : Slot
-no_slot = record { state = NormalKey 0 (record { i = 0; j = 0 }) }
+abbrev pub no_state : State
+no_state = NormalKey 0 (record { i = 0; j = 0 })
 
 abbrev pub no_stacked : Stacked
 no_stacked = record { event = Release 0 0; since = 0 }
@@ -49,20 +47,20 @@ tap_of (DefaultLayer v) = NoOp
 tap_of (HoldTap i timeout hold tap) = tap
 
 -- what waits, its hold and tap looked up in the image
-abbrev pub waiting_of : List ℕ → WaitingIn → Waiting
-waiting_of img waiting.Nothing = Idle
-waiting_of img (waiting.On w) = Waits w.coord w.left w.number (hold_of (tree img w.number)) (tap_of (tree img w.number))
+abbrev pub waiting_of : List ℕ → Option WaitingState → Waiting
+waiting_of img None = Idle
+waiting_of img (Some w) = Waits w.coord w.left w.number (hold_of (tree img w.number)) (tap_of (tree img w.number))
 
-abbrev pub waits_at : Coord → ℕ → ℕ → WaitingIn
-waits_at c left number = waiting.On (record { coord = c; left = left; number = number })
+abbrev pub waits_at : Coord → ℕ → ℕ → Option WaitingState
+waits_at c left number = Some (record { coord = c; left = left; number = number })
 
-abbrev pub waiting_in : Waiting → WaitingIn
-waiting_in Idle = waiting.Nothing
+abbrev pub waiting_in : Waiting → Option WaitingState
+waiting_in Idle = None
 waiting_in (Waits c left i hold tap) = waits_at c left i
 
 -- the states and the queue as lists
 abbrev pub states_in : Active → List State
-states_in active = map (λ (s : Slot). s.state) (take active.len active.states)
+states_in active = take active.len active.states
 
 abbrev pub queued_of : Stacked → Queued
 queued_of s = record { event = s.event; since = s.since }
@@ -83,7 +81,7 @@ abbrev pub active_of : Model → Active
 active_of l =
     record {
       default_layer = l.base;
-      states = pad 64 no_slot (map (λ (s : State). record { state = s }) l.states);
+      states = pad 64 no_state l.states;
       len = length l.states;
       waiting = waiting_in l.waiting;
     }

@@ -1,6 +1,6 @@
 -- 13 State, of a layout: document 01, "Refusal numbers", the paragraph on State.
 -- Assumes nothing.
-use Rattle.std.specs.Prelude.{ℕ, Bool, true, false, ◌&&◌, List, [], ◌∷◌, eqb, leb, ltb, take, drop}
+use Rattle.std.specs.Prelude.{ℕ, Bool, true, false, ◌&&◌, List, [], ◌∷◌, eqb, leb, ltb, take, drop, Option, Some, None}
 use Rattle.lists.specs.Lists.{every}
 use Rattle.codes.specs.Codes.{legal}
 use Rattle.event.specs.declared.Event.{Event}
@@ -11,9 +11,7 @@ use Rattle.layout.specs.Model.{Queued, age_of, same}
 use Rattle.layout.specs.Packed.{list_in}
 use Rattle.layout.specs.declared.active.State.{State}
 use Rattle.layout.specs.declared.active.State.TheVariants.{NormalKey, LayerModifier}
-use Rattle.layout.specs.declared.active.Slot.{Slot}
-use Rattle.layout.specs.declared.active.Waiting.{Waiting}
-use Rattle.layout.specs.declared.active.Waiting.TheVariants as waiting
+use Rattle.layout.specs.declared.active.WaitingState.{WaitingState}
 use Rattle.layout.specs.declared.queue.Stacked.{Stacked}
 use Rattle.layout.specs.declared.layout.Layout.{Layout}
 
@@ -21,9 +19,6 @@ use Rattle.layout.specs.declared.layout.Layout.{Layout}
 abbrev pub legal_state : State → Bool
 legal_state (NormalKey k c) = legal k
 legal_state (LayerModifier v c) = true
-
-abbrev pub legal_slot : Slot → Bool
-legal_slot s = legal_state s.state
 
 -- the ages of the queue, from the oldest on
 unfoldable pub falling : List Queued → Bool
@@ -42,17 +37,14 @@ may_wait (Layer v) left = false
 may_wait (DefaultLayer v) left = false
 may_wait (HoldTap i timeout hold tap) left = leb left timeout
 
-abbrev pub waiting_good : List ℕ → Waiting → Bool
-waiting_good img waiting.Nothing = true
-waiting_good img (waiting.On w) = may_wait (tree img w.number) w.left
+abbrev pub waiting_good : List ℕ → Option WaitingState → Bool
+waiting_good img None = true
+waiting_good img (Some w) = may_wait (tree img w.number) w.left
 
 -- the unused places
 abbrev pub unused_state : State → Bool
 unused_state (NormalKey k c) = eqb k 0 && same c (record { i = 0; j = 0 })
 unused_state (LayerModifier v c) = false
-
-abbrev pub unused_slot : Slot → Bool
-unused_slot s = unused_state s.state
 
 abbrev pub unused_event : Event → Bool
 unused_event (Release i j) = eqb i 0 && eqb j 0
@@ -68,8 +60,8 @@ state_good img lay =
     let queue = lay.queue in
     leb active.len 64
     && (leb queue.queued 16
-    && (every legal_slot (take active.len active.states)
+    && (every legal_state (take active.len active.states)
     && (ltb active.default_layer (layers_of img)
     && (falling (list_in queue)
     && (waiting_good img active.waiting
-    && (every unused_slot (drop active.len active.states) && every unused_stacked (drop queue.queued queue.stacked)))))))
+    && (every unused_state (drop active.len active.states) && every unused_stacked (drop queue.queued queue.stacked)))))))

@@ -7,55 +7,41 @@ ghost use Rattle.layout.specs.Model as Model;
 ghost use Rattle.layout.specs.Model.{still, marked, with_waiting};
 ghost use Rattle.layout.specs.Effects.{HasRoom, Leaves, Listed, CodesPushed, ActionRan, Settled};
 
-use super::active::Waiting;
 use super::effect::{Effect, push_key, push_layer, wait_on, with_default};
 use super::layout::Layout;
-use super::notes::{Way, note_decision};
-use super::queue::Found;
+use super::notes::{Decision, Way, note_decision};
 use event::Coord;
-use image::{Action, Entry, action_at, entry_at};
+use image::{Action, action_at, entry_at};
 
 // Where and how an action runs: in a table of so many layers, at the coordinates of its key, with its delay, and with the
-// first queued release of them.
+// age of the first queued release of them.
 #[derive(Clone, Copy)]
 pub(crate) struct Setting {
     pub layers: usize,
     pub coord: Coord,
     pub delay: u16,
-    pub found: Found,
+    pub found: Option<u16>,
 }
 
 // A queued release decides: tap if timeout >= delay - age, else hold.
 fn queued_way(timeout: u16, delay: u16, since: u16) -> Way
     ensures { result ≡ cond (leb (delay - since) timeout) Way.Tap Way.Hold }
 {
-    if (delay as u32) <= (timeout as u32) + (since as u32) {
-        return Way::Tap;
+    if delay.saturating_sub(since) <= timeout {
+        Way::Tap
+    } else {
+        Way::Hold
     }
-    Way::Hold
-}
-
-// Timeout less delay, not below 0.
-pub(crate) fn less(timeout: u16, delay: u16) -> u16
-    ensures { result ≡ timeout - delay }
-{
-    if delay < timeout {
-        return timeout - delay;
-    }
-    0
 }
 
 // What waits is decided: it waits no more, and the decision is noted.
 fn settle(effect: Effect, coord: Coord, way: Way) -> Effect
     ensures { Leaves effect result (λ img l. marked (Model.Decided coord way) (still (with_waiting Model.Idle l))) }
 {
-    let notes = note_decision(effect.notes, coord, way);
     Effect {
-        default_layer: effect.default_layer,
-        held: effect.held,
-        added: effect.added,
-        waiting: Waiting::Nothing,
-        notes,
+        waiting: None,
+        notes: note_decision(effect.notes, Decision { coord, way }),
+        ..effect
     }
 }
 
@@ -70,16 +56,13 @@ fn push_codes(
     requires { HasRoom effect added.old × Listed image.now first count }
     ensures { CodesPushed image.now first count effect result added.old added.new }
 {
-    let mut at = first as usize;
-    let mut left = count;
     let mut out = effect;
-    while 0 < left {
-        let Entry::Word(code) = entry_at(image, at) else {
+    let start = first as usize;
+    for at in start..start + count as usize {
+        let Some(code) = entry_at(image, at) else {
             return out;
         };
         out = push_key(out, code, added);
-        at += 1;
-        left -= 1;
     }
     out
 }
@@ -97,10 +80,11 @@ pub(crate) fn decide(
     requires { Sound image.now × HasRoom effect added.old }
     ensures { Settled image.now n setting way effect result added.old added.new }
 {
-    let coord = setting.coord;
-    let quiet = settle(effect, coord, way);
-    let mut at_once = setting;
-    at_once.delay = 0;
+    let quiet = settle(effect, setting.coord, way);
+    let at_once = Setting {
+        delay: 0,
+        ..setting
+    };
     let Action::HoldTap(_, hold, tap) = action_at(image, n as usize) else {
         return quiet;
     };
@@ -122,39 +106,32 @@ pub(crate) fn do_action(
     requires { Sound image.now × HasRoom effect added.old }
     ensures { ActionRan image.now n setting effect result added.old added.new }
 {
-    let coord = setting.coord;
-    let found = setting.found;
     match action_at(image, n as usize) {
-        Action::NoOp => effect,
-        Action::Trans => effect,
+        Action::NoOp | Action::Trans => effect,
         Action::KeyCode(code) => push_key(effect, code, added),
         Action::MultipleKeyCodes(first, count) => push_codes(image, effect, first, count, added),
         Action::MultipleActions(first, count) => {
-            let mut at = first as usize;
-            let mut left = count;
             let mut out = effect;
-            while 0 < left {
-                let Entry::Word(k) = entry_at(image, at) else {
+            let start = first as usize;
+            for at in start..start + count as usize {
+                let Some(k) = entry_at(image, at) else {
                     return out;
                 };
                 out = do_action(image, out, k, setting, added);
-                at += 1;
-                left -= 1;
             }
             out
         }
         Action::Layer(value) => push_layer(effect, value, added),
         Action::DefaultLayer(value) => with_default(effect, setting.layers, value),
-        Action::HoldTap(timeout, _, _) => match found {
-            Found::None => wait_on(effect, coord, less(timeout, setting.delay), n),
-            Found::At(since) => decide(
-                image,
-                effect,
-                n,
-                setting,
-                queued_way(timeout, setting.delay, since),
-                added,
-            ),
+        Action::HoldTap(timeout, _, _) => match setting.found {
+            None => {
+                let left = timeout.saturating_sub(setting.delay);
+                wait_on(effect, setting.coord, left, n)
+            }
+            Some(since) => {
+                let way = queued_way(timeout, setting.delay, since);
+                decide(image, effect, n, setting, way, added)
+            }
         },
     }
 }

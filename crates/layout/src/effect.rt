@@ -9,7 +9,7 @@ ghost use Rattle.layout.specs.Packed.{waiting_of, waits_at};
 ghost use Rattle.layout.specs.Inside.{Tidy};
 ghost use Rattle.layout.specs.Effects.{state_of, effect_of, HasRoom, Added, Pushes, Leaves, Grown};
 
-use super::active::{Active, Slot, State, Waiting, WaitingState};
+use super::active::{Active, State, WaitingState};
 use super::layout::Layout;
 use super::notes::{Notes, note_dropped};
 use event::Coord;
@@ -27,7 +27,7 @@ pub(crate) struct Effect {
     pub default_layer: usize,
     pub held: usize,
     pub added: usize,
-    pub waiting: Waiting,
+    pub waiting: Option<WaitingState>,
     pub notes: Notes,
 }
 
@@ -35,12 +35,11 @@ pub(crate) struct Effect {
 pub(crate) fn effect_of(active: Active, notes: Notes) -> Effect
     ensures { result ≡ effect_of active notes }
 {
-    let waiting = active.waiting;
     Effect {
         default_layer: active.default_layer,
         held: active.len,
         added: 0,
-        waiting,
+        waiting: active.waiting,
         notes,
     }
 }
@@ -50,14 +49,15 @@ fn state_of(number: u32, coord: Coord) -> State
     ensures { result ≡ state_of coord number }
 {
     if number < 65536 {
-        return State::NormalKey {
+        State::NormalKey {
             keycode: (number % 256) as u8,
             coord,
-        };
-    }
-    State::LayerModifier {
-        value: (number % 65536) as u16,
-        coord,
+        }
+    } else {
+        State::LayerModifier {
+            value: (number % 65536) as u16,
+            coord,
+        }
     }
 }
 
@@ -66,12 +66,11 @@ fn add(effect: Effect, number: u32, added: &mut [u32; Layout::STATES]) -> bool
     requires { HasRoom effect added.old }
     ensures { Added effect number result added.old added.new }
 {
-    let n = effect.added;
-    if effect.held + n < Layout::STATES {
-        added[n] = number;
-        return true;
+    let roomy = effect.held + effect.added < Layout::STATES;
+    if roomy {
+        added[effect.added] = number;
     }
-    false
+    roomy
 }
 
 // One state more. A 65th is dropped, and counted.
@@ -79,14 +78,17 @@ fn push(effect: Effect, number: u32, added: &mut [u32; Layout::STATES]) -> Effec
     requires { HasRoom effect added.old }
     ensures { Pushes effect result added.old added.new (λ c. state_of c number) }
 {
-    let mut out = effect;
     if add(effect, number, added) {
-        out.added = effect.added + 1;
-        return out;
+        Effect {
+            added: effect.added + 1,
+            ..effect
+        }
+    } else {
+        Effect {
+            notes: note_dropped(effect.notes),
+            ..effect
+        }
     }
-    let notes = effect.notes;
-    out.notes = note_dropped(notes);
-    out
 }
 
 // A key's code held.
@@ -109,17 +111,13 @@ pub(crate) fn push_layer(effect: Effect, value: u16, added: &mut [u32; Layout::S
 pub(crate) fn wait_on(effect: Effect, coord: Coord, left: u16, number: u16) -> Effect
     ensures { Leaves effect result (λ img l. still (with_waiting (waiting_of img (waits_at coord left number)) l)) }
 {
-    let notes = effect.notes;
     Effect {
-        default_layer: effect.default_layer,
-        held: effect.held,
-        added: effect.added,
-        waiting: Waiting::On(WaitingState {
+        waiting: Some(WaitingState {
             coord,
             left,
             number,
         }),
-        notes,
+        ..effect
     }
 }
 
@@ -127,13 +125,15 @@ pub(crate) fn wait_on(effect: Effect, coord: Coord, left: u16, number: u16) -> E
 pub(crate) fn with_default(effect: Effect, layers: usize, value: u16) -> Effect
     ensures { Leaves effect result (λ img l. cond (ltb value layers) (still (with_base value l)) (still l)) }
 {
-    let layer = value as usize;
-    if layer < layers {
-        let mut out = effect;
-        out.default_layer = layer;
-        return out;
+    let default_layer = value as usize;
+    if default_layer < layers {
+        Effect {
+            default_layer,
+            ..effect
+        }
+    } else {
+        effect
     }
-    effect
 }
 
 // What a call has come to once an action has run: what was added stands behind the states.
@@ -146,25 +146,17 @@ pub(crate) fn after_effect(
     requires { Tidy active × HasRoom effect added.now × (effect.held ≡ active.len) }
     ensures { Grown active effect added.now coord result }
 {
-    let held = effect.held;
-    let n = effect.added;
     let mut states = active.states;
-    let mut k: usize = 0;
-    while k < n {
-        states[held + k] = Slot {
-            state: state_of(added[k], coord),
-        };
-        k += 1;
+    for k in 0..effect.added {
+        states[effect.held + k] = state_of(added[k], coord);
     }
-    let waiting = effect.waiting;
-    let notes = effect.notes;
     Progress {
         active: Active {
             default_layer: effect.default_layer,
             states,
-            len: held + n,
-            waiting,
+            len: effect.held + effect.added,
+            waiting: effect.waiting,
         },
-        notes,
+        notes: effect.notes,
     }
 }

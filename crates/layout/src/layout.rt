@@ -1,73 +1,39 @@
 // The layout and its public calls: document 01, Layout. A call checks the image, then State, then Room.
 // Assumes nothing.
-ghost use Rattle.std.specs.Prelude.{◌≡◌};
+ghost use Rattle.std.specs.Prelude.{◌≡◌, ◌≤◌, IfOk};
 ghost use Rattle.layout.specs.Model.{fresh};
 ghost use Rattle.layout.specs.Packed.{pack};
-ghost use Rattle.layout.specs.Calls.{verdict_in, handed, shown, event_reply, tick_reply, keycodes_reply};
-ghost use Rattle.layout.specs.Inside.{JudgedSo};
+ghost use Rattle.layout.specs.Calls.{handed, shown, event_reply, tick_reply, keycodes_reply};
+ghost use Rattle.layout.specs.Inside.{Ready, judged_layers};
 
-use super::active::{Active, Slot, State, Waiting};
-use super::answer::{Answer, Answered, answer_of, refused_as};
+use super::active::{Active, State};
+use super::answer::{Answer, Answered, answer_of};
 use super::effect::Progress;
 use super::notes::no_notes;
 use super::queue::{Queue, Stacked, age, append, shift};
 use super::state::state_good;
-use super::steps::{overflow, releases_waiting, tap_released, tick_waiting, unstack};
-use event::{Coord, Event};
-use image::{Checked, check};
-use refusal::{Refusal, Verdict};
+use super::steps::{overflow, tap_released, tick_waiting, unstack};
+use event::Event;
+use image::check;
+use refusal::{Fault, Refusal, rule};
 
 // What running actions changes, and the queued events.
-#[derive(Clone, Copy)]
+#[derive(Clone, Copy, PartialEq, Eq, Debug)]
 pub struct Layout {
     pub active: Active,
     pub queue: Queue,
 }
 
-// Whether a call is refused, and if not, how many layers the table has.
-#[derive(Clone, Copy)]
-struct Judged {
-    verdict: Verdict,
-    layers: usize,
-}
-
-fn verdict_in(checked: Checked) -> Verdict
-    ensures { result ≡ verdict_in checked }
+// The image's own refusals, then State, then Room; and where nothing is refused, how many layers the table has.
+#[tactic(auto, unfolding(crate::specs::Calls::judged_of, refusal::specs::Verdict::or_else, refusal::specs::Verdict::rule))]
+fn judge(image: &[u8], layout: Layout, room: usize) -> Result<usize, Fault>
+    ensures is { result ≡ judged_layers image.now layout room }
+    ensures ready { IfOk result (λ layers. Ready image.now layers layout.active layout.queue × (64 ≤ room)) }
 {
-    match checked {
-        Checked::Accepted(_) => Verdict::Fine,
-        Checked::Refused(refusal, place) => Verdict::Refused(refusal, place),
-    }
-}
-
-// The image's own refusals, then State, then Room.
-fn judge(image: &[u8], active: Active, queue: Queue, room: usize) -> Judged
-    ensures { JudgedSo image.now (record { active = active; queue = queue }) room result }
-{
-    let checked = check(image);
-    let Checked::Accepted(shape) = checked else {
-        return Judged {
-            verdict: verdict_in(checked),
-            layers: 0,
-        };
-    };
-    let layers = shape.layers;
-    if !state_good(image, layers, active, queue) {
-        return Judged {
-            verdict: Verdict::Refused(Refusal::State, 0),
-            layers,
-        };
-    }
-    if room < Layout::STATES {
-        return Judged {
-            verdict: Verdict::Refused(Refusal::Room, 0),
-            layers,
-        };
-    }
-    Judged {
-        verdict: Verdict::Fine,
-        layers,
-    }
+    let layers = check(image)?.layers;
+    rule(state_good(image, layers, layout), Refusal::State, 0)?;
+    rule(Layout::STATES <= room, Refusal::Room, 0)?;
+    Ok(layers)
 }
 
 impl Layout {
@@ -79,25 +45,15 @@ impl Layout {
     pub fn new() -> Layout
         ensures { result ≡ pack fresh }
     {
-        let slot = Slot {
-            state: State::NormalKey {
-                keycode: 0,
-                coord: Coord { i: 0, j: 0 },
-            },
-        };
-        let zero = Stacked {
-            event: Event::Release(0, 0),
-            since: 0,
-        };
         Layout {
             active: Active {
                 default_layer: 0,
-                states: [slot; Layout::STATES],
+                states: [State::UNUSED; Layout::STATES],
                 len: 0,
-                waiting: Waiting::Nothing,
+                waiting: None,
             },
             queue: Queue {
-                stacked: [zero; Layout::QUEUE],
+                stacked: [Stacked::UNUSED; Layout::QUEUE],
                 queued: 0,
             },
         }
@@ -107,92 +63,65 @@ impl Layout {
     pub fn event(self, image: &[u8], event: Event, out: &mut [u8]) -> Answered
         ensures { handed result out.new ≡ event_reply image.now event self out.old }
     {
-        let active = self.active;
-        let queue = self.queue;
-        let judged = judge(image, active, queue, out.len());
-        let verdict = judged.verdict;
-        let Verdict::Fine = verdict else {
-            return Answered {
-                answer: refused_as(verdict),
+        match judge(image, self, out.len()) {
+            Err(fault) => Answered {
+                answer: Err(fault),
                 layout: self,
-            };
-        };
-        let layers = judged.layers;
-        let notes = no_notes();
-        let waiting = active.waiting;
-        if queue.queued < Layout::QUEUE {
-            let longer = append(queue, event);
-            if !releases_waiting(waiting, event) {
-                return answer_of(Progress { active, notes }, longer, out);
+            },
+            Ok(layers) => {
+                let begun = Progress {
+                    active: self.active,
+                    notes: no_notes(),
+                };
+                if self.queue.queued < Layout::QUEUE {
+                    let queue = append(self.queue, event);
+                    return answer_of(tap_released(image, layers, begun, queue, event), queue, out);
+                }
+                let oldest = self.queue.stacked[0];
+                let queue = append(shift(self.queue), event);
+                let next = overflow(image, layers, begun, queue, oldest);
+                answer_of(tap_released(image, layers, next, queue, event), queue, out)
             }
-            return answer_of(
-                tap_released(image, layers, active, notes, longer, event),
-                longer,
-                out,
-            );
         }
-        let oldest = queue.stacked[0];
-        let rest = append(shift(queue), event);
-        let next = overflow(image, layers, active, notes, rest, oldest);
-        let after = next.active;
-        let noted = next.notes;
-        answer_of(
-            tap_released(image, layers, after, noted, rest, event),
-            rest,
-            out,
-        )
     }
 
     // One tick of the clock, a millisecond on the panel.
     pub fn tick(self, image: &[u8], out: &mut [u8]) -> Answered
         ensures { handed result out.new ≡ tick_reply image.now self out.old }
     {
-        let active = self.active;
-        let queue = self.queue;
-        let judged = judge(image, active, queue, out.len());
-        let verdict = judged.verdict;
-        let Verdict::Fine = verdict else {
-            return Answered {
-                answer: refused_as(verdict),
+        match judge(image, self, out.len()) {
+            Err(fault) => Answered {
+                answer: Err(fault),
                 layout: self,
-            };
-        };
-        let layers = judged.layers;
-        let notes = no_notes();
-        let older = age(queue);
-        let waiting = active.waiting;
-        let Waiting::On(w) = waiting else {
-            if older.queued == 0 {
-                return answer_of(Progress { active, notes }, older, out);
+            },
+            Ok(layers) => {
+                let begun = Progress {
+                    active: self.active,
+                    notes: no_notes(),
+                };
+                let queue = age(self.queue);
+                if let Some(w) = self.active.waiting {
+                    return answer_of(tick_waiting(image, layers, begun, queue, w), queue, out);
+                }
+                if queue.queued == 0 {
+                    return answer_of(begun, queue, out);
+                }
+                let oldest = queue.stacked[0];
+                let rest = shift(queue);
+                answer_of(unstack(image, layers, begun, rest, oldest), rest, out)
             }
-            let oldest = older.stacked[0];
-            let rest = shift(older);
-            return answer_of(
-                unstack(image, layers, active, notes, rest, oldest),
-                rest,
-                out,
-            );
-        };
-        answer_of(
-            tick_waiting(image, layers, active, notes, older, w),
-            older,
-            out,
-        )
+        }
     }
 
     // The key codes of the layout as it stands.
-    pub fn keycodes(self, image: &[u8], out: &mut [u8]) -> Answer
+    pub fn keycodes(self, image: &[u8], out: &mut [u8]) -> Result<Answer, Fault>
         ensures { shown result self out.new ≡ keycodes_reply image.now self out.old }
     {
-        let active = self.active;
-        let queue = self.queue;
-        let judged = judge(image, active, queue, out.len());
-        let verdict = judged.verdict;
-        let Verdict::Fine = verdict else {
-            return refused_as(verdict);
+        judge(image, self, out.len())?;
+        let begun = Progress {
+            active: self.active,
+            notes: no_notes(),
         };
-        let notes = no_notes();
-        let answered = answer_of(Progress { active, notes }, queue, out);
-        answered.answer
+        answer_of(begun, self.queue, out).answer
     }
 }

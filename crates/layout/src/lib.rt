@@ -12,8 +12,8 @@ pub mod queue;
 pub mod state;
 pub mod steps;
 
-pub use active::{Active, Slot, State, Waiting, WaitingState};
-pub use answer::{Answer, Answered, Told};
+pub use active::{Active, State, WaitingState};
+pub use answer::{Answer, Answered};
 pub use layout::Layout;
-pub use notes::{Acted, Decision, Notes, Way};
+pub use notes::{Decision, Notes, Way};
 pub use queue::{Queue, Stacked};

@@ -7,31 +7,26 @@ ghost use Rattle.layout.specs.Notes.{no_notes as none, note_acted, note_decision
 use event::{Coord, Event};
 
 // How a hold-tap is decided.
-#[derive(Clone, Copy)]
+#[derive(Clone, Copy, PartialEq, Eq, Debug)]
 pub enum Way {
     Tap,
     Hold,
 }
 
-#[derive(Clone, Copy)]
-pub enum Decision {
-    Nothing,
-    Made(Coord, Way),
-}
-
-#[derive(Clone, Copy)]
-pub enum Acted {
-    Nothing,
-    On(Event),
+// A hold-tap that was decided: the coordinates of its key, and how.
+#[derive(Clone, Copy, PartialEq, Eq, Debug)]
+pub struct Decision {
+    pub coord: Coord,
+    pub way: Way,
 }
 
 // The event acted on, if any, how many decisions were made, the decisions in their order, and how many states were dropped.
-#[derive(Clone, Copy)]
+#[derive(Clone, Copy, PartialEq, Eq, Debug)]
 pub struct Notes {
-    pub acted: Acted,
+    pub acted: Option<Event>,
     pub made: u8,
-    pub first: Decision,
-    pub second: Decision,
+    pub first: Option<Decision>,
+    pub second: Option<Decision>,
     pub dropped: u16,
 }
 
@@ -40,10 +35,10 @@ pub(crate) fn no_notes() -> Notes
     ensures { result ≡ none }
 {
     Notes {
-        acted: Acted::Nothing,
+        acted: None,
         made: 0,
-        first: Decision::Nothing,
-        second: Decision::Nothing,
+        first: None,
+        second: None,
         dropped: 0,
     }
 }
@@ -52,39 +47,26 @@ pub(crate) fn no_notes() -> Notes
 pub(crate) fn note_acted(notes: Notes, event: Event) -> Notes
     ensures { result ≡ note_acted notes event }
 {
-    let first = notes.first;
-    let second = notes.second;
     Notes {
-        acted: Acted::On(event),
-        made: notes.made,
-        first,
-        second,
-        dropped: notes.dropped,
+        acted: Some(event),
+        ..notes
     }
 }
 
 // A decision, at the position behind those made before it. There is room for two.
-pub(crate) fn note_decision(notes: Notes, coord: Coord, way: Way) -> Notes
-    ensures { result ≡ note_decision notes coord way }
+pub(crate) fn note_decision(notes: Notes, decision: Decision) -> Notes
+    ensures { result ≡ note_decision notes decision.coord decision.way }
 {
-    let acted = notes.acted;
-    let first = notes.first;
-    let second = notes.second;
-    let made = notes.made;
-    match made {
+    match notes.made {
         0 => Notes {
-            acted,
             made: 1,
-            first: Decision::Made(coord, way),
-            second,
-            dropped: notes.dropped,
+            first: Some(decision),
+            ..notes
         },
         1 => Notes {
-            acted,
             made: 2,
-            first,
-            second: Decision::Made(coord, way),
-            dropped: notes.dropped,
+            second: Some(decision),
+            ..notes
         },
         _ => notes,
     }
@@ -94,11 +76,8 @@ pub(crate) fn note_decision(notes: Notes, coord: Coord, way: Way) -> Notes
 pub(crate) fn note_dropped(notes: Notes) -> Notes
     ensures { result ≡ note_dropped notes 1 }
 {
-    let k = notes.dropped;
-    if k < 65535 {
-        let mut out = notes;
-        out.dropped = k + 1;
-        return out;
+    Notes {
+        dropped: notes.dropped.saturating_add(1),
+        ..notes
     }
-    notes
 }

@@ -1,125 +1,75 @@
 // The State check of a layout: document 01, "Refusal numbers", 13.
 // Assumes nothing.
-ghost use Rattle.std.specs.Prelude.{◌≡◌, ◌≤◌, take, drop};
+ghost use Rattle.std.specs.Prelude.{◌≡◌, map};
 ghost use Rattle.lists.specs.Lists.{every};
 ghost use Rattle.image.specs.Words.{layers_of};
 ghost use Rattle.image.specs.Sound.{Sound};
-ghost use Rattle.layout.specs.Packed.{list_in};
-ghost use Rattle.layout.specs.State.{legal_state, legal_slot, falling, waiting_good, unused_state, unused_slot, unused_stacked, state_good};
+ghost use Rattle.layout.specs.Packed.{queued_of};
+ghost use Rattle.layout.specs.State.{legal_state, falling, waiting_good, unused_state, unused_stacked, state_good};
 
-use super::active::{Active, State, Waiting, is_same};
+use super::active::{State, WaitingState};
 use super::layout::Layout;
-use super::queue::{Queue, Stacked};
+use super::queue::Stacked;
 use codes::KeyCode;
-use event::{Coord, Event};
 use image::{Action, action_at};
 
 fn is_legal_state(state: State) -> bool
     ensures { result ≡ legal_state state }
 {
     match state {
-        State::NormalKey { keycode, coord: _ } => KeyCode::is_legal(keycode as u16),
-        State::LayerModifier { value: _, coord: _ } => true,
+        State::NormalKey { keycode, .. } => KeyCode::is_legal(keycode as u16),
+        State::LayerModifier { .. } => true,
     }
 }
 
 fn is_unused_state(state: State) -> bool
     ensures { result ≡ unused_state state }
 {
-    match state {
-        State::NormalKey { keycode, coord } => {
-            if keycode != 0 {
-                return false;
-            }
-            is_same(coord, Coord { i: 0, j: 0 })
-        }
-        State::LayerModifier { value: _, coord: _ } => false,
-    }
+    state == State::UNUSED
 }
 
 fn is_unused_event(stacked: Stacked) -> bool
     ensures { result ≡ unused_stacked stacked }
 {
-    if stacked.since != 0 {
-        return false;
-    }
-    let event = stacked.event;
-    match event {
-        Event::Release(i, j) => i == 0 && j == 0,
-        Event::Press(_, _) => false,
-    }
+    stacked == Stacked::UNUSED
 }
 
-fn states_legal(active: Active) -> bool
-    requires { active.len ≤ 64 }
-    ensures { result ≡ every legal_slot (take active.len active.states) }
+fn all_legal(states: &[State]) -> bool
+    ensures { result ≡ every legal_state states.now }
 {
-    let n = active.len;
-    let mut i: usize = 0;
-    while i < n {
-        let slot = active.states[i];
-        let state = slot.state;
-        if !is_legal_state(state) {
-            return false;
-        }
-        i += 1;
-    }
-    true
+    states.iter().all(|state| is_legal_state(*state))
 }
 
-fn states_unused(active: Active) -> bool
-    ensures { result ≡ every unused_slot (drop active.len active.states) }
+fn all_unused(states: &[State]) -> bool
+    ensures { result ≡ every unused_state states.now }
 {
-    let mut i = active.len;
-    while i < Layout::STATES {
-        let slot = active.states[i];
-        let state = slot.state;
-        if !is_unused_state(state) {
-            return false;
-        }
-        i += 1;
-    }
-    true
+    states.iter().all(|state| is_unused_state(*state))
 }
 
 // No queued age is above the one in front of it.
-fn ages_fall(queue: Queue) -> bool
-    requires { queue.queued ≤ 16 }
-    ensures { result ≡ falling (list_in queue) }
+fn ages_fall(queued: &[Stacked]) -> bool
+    ensures { result ≡ falling (map queued_of queued.now) }
 {
-    let n = queue.queued;
-    let mut i: usize = 0;
-    while i + 1 < n {
-        let front = queue.stacked[i];
-        let next = queue.stacked[i + 1];
-        if front.since < next.since {
+    for pair in queued.windows(2) {
+        if pair[0].since < pair[1].since {
             return false;
         }
-        i += 1;
     }
     true
 }
 
-fn events_unused(queue: Queue) -> bool
-    ensures { result ≡ every unused_stacked (drop queue.queued queue.stacked) }
+fn none_queued(stacked: &[Stacked]) -> bool
+    ensures { result ≡ every unused_stacked stacked.now }
 {
-    let mut i = queue.queued;
-    while i < Layout::QUEUE {
-        let stacked = queue.stacked[i];
-        if !is_unused_event(stacked) {
-            return false;
-        }
-        i += 1;
-    }
-    true
+    stacked.iter().all(|place| is_unused_event(*place))
 }
 
 // What waits is a HoldTap of the table, with no more ticks left than its timeout.
-fn waiting_good(image: &[u8], waiting: Waiting) -> bool
+fn waiting_good(image: &[u8], waiting: Option<WaitingState>) -> bool
     requires { Sound image.now }
     ensures { result ≡ waiting_good image.now waiting }
 {
-    let Waiting::On(w) = waiting else {
+    let Some(w) = waiting else {
         return true;
     };
     let Action::HoldTap(timeout, _, _) = action_at(image, w.number as usize) else {
@@ -129,28 +79,21 @@ fn waiting_good(image: &[u8], waiting: Waiting) -> bool
 }
 
 // Whether no part of a layout breaks its rule, under an accepted image of so many layers.
-pub(crate) fn state_good(image: &[u8], layers: usize, active: Active, queue: Queue) -> bool
+#[tactic(auto, unfolding(crate::specs::State::state_good))]
+pub(crate) fn state_good(image: &[u8], layers: usize, layout: Layout) -> bool
     requires { Sound image.now × (layers ≡ layers_of image.now) }
-    ensures { result ≡ state_good image.now (record { active = active; queue = queue }) }
+    ensures { result ≡ state_good image.now layout }
 {
-    if Layout::STATES < active.len {
+    let Layout { active, queue } = layout;
+    if Layout::STATES < active.len || Layout::QUEUE < queue.queued {
         return false;
     }
-    if Layout::QUEUE < queue.queued {
-        return false;
-    }
-    if !states_legal(active) {
-        return false;
-    }
-    if layers <= active.default_layer {
-        return false;
-    }
-    if !ages_fall(queue) {
-        return false;
-    }
-    let waiting = active.waiting;
-    if !waiting_good(image, waiting) {
-        return false;
-    }
-    states_unused(active) && events_unused(queue)
+    let (held, unused) = active.states.split_at(active.len);
+    let (queued, empty) = queue.stacked.split_at(queue.queued);
+    all_legal(held)
+        && active.default_layer < layers
+        && ages_fall(queued)
+        && waiting_good(image, active.waiting)
+        && all_unused(unused)
+        && none_queued(empty)
 }

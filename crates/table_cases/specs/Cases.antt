@@ -2,8 +2,9 @@
 -- that the contracts of `table_text` give. Bytes are ASCII: 10 is the newline, 32 the space, 48 the digit 0.
 -- Assumes nothing.
 use Rattle.std.specs.Prelude.{ℕ, List, [], ◌∷◌, ◌++◌, ◌≡◌, replicate}
+use Rattle.refusal.specs.Said.{Said, said}
 use Rattle.table_text.specs.Lines.{Row, Numbers, Unfit, row_of}
-use Rattle.table_text.specs.Made.{Reply, told_of}
+use Rattle.table_text.specs.Made.{Reply}
 use Rattle.table_text.specs.Plain.{plain}
 use Rattle.table_text.specs.Print.{text_of}
 use Rattle.table_text.specs.RoundTrip.{result}
@@ -64,7 +65,7 @@ pub record Case : Type 0 where
   pub says : List ℕ
 
 unfoldable pub answered : Reply → List ℕ
-answered reply = (told_of reply.made).number ∷ (told_of reply.made).place ∷ result reply
+answered reply = let told = said 0 reply.made in told.number ∷ told.place ∷ result reply
 
 unfoldable pub cases : List Case
 cases =

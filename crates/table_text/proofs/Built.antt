@@ -5,9 +5,8 @@ use mathlib.Core.Bool.{true}
 use mathlib.Core.Path.{◌≡◌, ap, ◌∙◌}
 use native.Mathlib.Omega.{arith}
 use lib.ListN.{length, take, drop, replicate, length-replicate}
-use lib.Seq.{sets, sets-eq, length-sets, take_at}
+use lib.Seq.{sets, sets-eq, take_at}
 use Rattle.image.specs.Check.{counts_good}
-use Rattle.image.specs.declared.words.Shape.{Shape}
 use Rattle.image.proofs.HeaderRules.{counts, few_cells}
 use Rattle.table_text.specs.Write.{shape_from, bytes_of, image_from}
 use Rattle.table_text.specs.Inside.{Small, headed_of}
@@ -58,8 +57,3 @@ built (l ∷ r ∷ c ∷ a ∷ n ∷ []) numbers e few long =
     let fits : length (bytes_of numbers) ≤ length rest = omega (arith, room, bytes_length numbers, few.whole, long) in
     rw long (header_made l r c a n rest numbers fits)
 built (l ∷ r ∷ c ∷ a ∷ n ∷ m ∷ ms) numbers e few long = absurd (omega arith)
-
--- the header's words leave the image as long as it was
-pub headed_long : (s : Shape) (image : List ℕ) → length (headed_of s image) ≡ length image
-unfolding headed_of
-headed_long s image = simp length-sets

@@ -12,7 +12,7 @@ use Rattle.lists.proofs.Laws.{both_true, every_head, every_split}
 use Rattle.lists.specs.Lists.{every}
 use Rattle.number.proofs.Read.{number_some}
 use Rattle.number.specs.Number.{is_digit, comes_to, read_behind, read_decimal}
-use Rattle.number.specs.declared.Number.TheVariants.{Value, Unread}
+use Rattle.std.specs.Prelude.{Some, None}
 use Rattle.text.proofs.Laws.{place_past, place_digit}
 use Rattle.text.specs.Text.{place_of, decimal_of}
 use Rattle.table_text.proofs.Parts.{free, free_cons}
@@ -157,7 +157,7 @@ decimal_comes n h = by_digits (λ k. comes_to 0 (decimal_of k) ≡ k) one more n
     more : (k d : ℕ) → 1 ≤ k → k ≤ 9999 → d < 10 → comes_to 0 (decimal_of k) ≡ k → comes_to 0 (decimal_of (10 * k + d)) ≡ 10 * k + d
     more k d l m b e = rw (decimal_up k d l m b, comes_append 0 (decimal_of k) ((48 + d) ∷ []), e) (omega arith)
 
-pub read_written : (n : ℕ) → n ≤ 65535 → read_decimal (decimal_of n) ≡ Value n
+pub read_written : (n : ℕ) → n ≤ 65535 → read_decimal (decimal_of n) ≡ Some n
 unfolding read_behind
 read_written n h =
     let some = decimal_some n in
@@ -171,13 +171,13 @@ pub record ReadAs (w : List ℕ) (n : ℕ) : Type 0 where
   pub small : n ≤ 65535
   pub some : 0 < length w
 
-pub read_as : (w : List ℕ) (n : ℕ) → read_decimal w ≡ Value n → ReadAs w n
+pub read_as : (w : List ℕ) (n : ℕ) → read_decimal w ≡ Some n → ReadAs w n
 unfolding read_decimal read_behind
 read_as [] n e = let z : ◌≡◌ {A = ℕ} 0 1 = cc in absurd (omega arith)
 read_as (c ∷ cs) n e = go (every is_digit (c ∷ cs) && leb (comes_to 0 (c ∷ cs)) 65535) refl e
   where
     go : (t : Bool) → every is_digit (c ∷ cs) && leb (comes_to 0 (c ∷ cs)) 65535 ≡ t
-        → cond t (Value (comes_to 0 (c ∷ cs))) Unread ≡ Value n → ReadAs (c ∷ cs) n
+        → cond t (Some (comes_to 0 (c ∷ cs))) None ≡ Some n → ReadAs (c ∷ cs) n
     go true t v =
         let h = both_true (every is_digit (c ∷ cs)) (leb (comes_to 0 (c ∷ cs)) 65535) t in
         let q : comes_to 0 (c ∷ cs) ≡ n = cc in
@@ -239,7 +239,7 @@ unzeroed_digits (c ∷ (d ∷ cs)) l f m =
         ∙ rw (i, unzeroed_behind (d ∷ cs) g)
         (sym (decimal_behind (0 + (c - 48)) (d ∷ cs) (omega arith) g m ∙ rw (decimal_one (0 + (c - 48)) (omega arith), q)))
 
-pub unzeroed_word : (w : List ℕ) (n : ℕ) → read_decimal w ≡ Value n → unzeroed false w ≡ decimal_of n
+pub unzeroed_word : (w : List ℕ) (n : ℕ) → read_decimal w ≡ Some n → unzeroed false w ≡ decimal_of n
 unzeroed_word w n e =
     let h = read_as w n e in
     let q = h.comes in

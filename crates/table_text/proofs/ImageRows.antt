@@ -18,7 +18,7 @@ use Rattle.image.specs.declared.words.Shape.{Shape}
 use Rattle.image.proofs.Entries.{length_words}
 use Rattle.image.proofs.HeaderRules.{headed, framed}
 use Rattle.refusal.specs.declared.Refusal.TheVariants as refusal
-use Rattle.refusal.specs.declared.Verdict.TheVariants.{Fine}
+use Rattle.refusal.specs.Verdict.{fine}
 use Rattle.refusal.proofs.Verdicts.{rule_fine, or_fine}
 use Rattle.table_text.specs.Write.{shape_from, bytes_of, image_from}
 use Rattle.table_text.specs.Print.{rows_from, rows_in}
@@ -70,10 +70,10 @@ pub rows_back : (pre : List ℕ) (rows : List (List ℕ)) (post : List ℕ) (at 
 rows_back pre rows post at n w e f g = rw (← f) (rows_whole pre rows post at w e g)
 
 -- an image without fault: its version and counts, and that its rows are as these ask for them
-module _ (img : List ℕ) (fine : fault_of img ≡ Fine) where
-  head_fine : head_fault img (eqb (length img) (size_of img)) ≡ Fine
+module _ (img : List ℕ) (kept : fault_of img ≡ fine) where
+  head_fine : head_fault img (eqb (length img) (size_of img)) ≡ fine
   unfolding fault_of
-  head_fine = (or_fine _ (body_fault img) (rule_fine _ refusal.Short 0 _ fine).1).0
+  head_fine = (or_fine _ (body_fault img) (rule_fine _ refusal.Short 0 _ kept).1).0
 
   counts_fine : (version_of img ≡ 1) × (counts_good (version_of img) (shape_of img) ≡ true)
   unfolding header_good counts_good
@@ -144,14 +144,14 @@ module _ (img : List ℕ) (f : Framed img) where
   image_long = omega arith
 
 -- the image of its rows
-pub image_again : (img : List ℕ) → fault_of img ≡ Fine → ((i : ℕ) → get_or img i 0 < 256)
+pub image_again : (img : List ℕ) → fault_of img ≡ fine → ((i : ℕ) → get_or img i 0 < 256)
     → image_from (shape_of img) (flat (drop 1 (rows_in img))) ≡ img
 unfolding image_from words_from
-image_again img fine b =
-    let f = image_framed img fine in
+image_again img kept b =
+    let f = image_framed img kept in
     let n = cells_of img + records_of img * 4 + entries_of img in
     let whole = bytes_back img (8 + n) b (image_long img f) in
-    rw (image_words img f, ← (counts_fine img fine).0) (ap bytes_of (sym (words_split img 0 8 n)) ∙ whole)
+    rw (image_words img f, ← (counts_fine img kept).0) (ap bytes_of (sym (words_split img 0 8 n)) ∙ whole)
 
 -- the header of an image
 head_of : Shape → List ℕ

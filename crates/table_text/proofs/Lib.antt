@@ -2,7 +2,7 @@ pub mod Laid
 pub mod Printed
 pub mod Asked
 pub mod Checks
-pub mod Spaces
+pub mod Places
 pub mod Rows
 pub mod Parts
 pub mod Decimal

@@ -8,11 +8,10 @@ use native.Mathlib.Omega.{arith}
 use lib.ListN.{length, length-append, take, drop}
 use lib.Seq.{sets, take-length}
 use Rattle.number.specs.Number.{read_decimal}
-use Rattle.number.specs.declared.Number.TheVariants.{Value, Unread}
+use Rattle.std.specs.Prelude.{Some, None}
 use Rattle.table_text.specs.Lines.{parts, single, Row, Numbers, Unfit, before, read_words, row_of}
 use Rattle.table_text.specs.Write.{bytes_of}
 use Rattle.table_text.specs.Inside.{index_of, unspaced, ReadsLine}
-use Rattle.table_text.specs.declared.lines.Counted.TheVariants as counted
 use Rattle.table_text.proofs.Laid.{sets_append}
 use Rattle.table_text.proofs.Parts.{parts_cut, parts_none, index_free, index_within, index_cut, index_none, single_free, single_none, single_run}
 use Rattle.table_text.proofs.PlainText.{row_some}
@@ -40,16 +39,16 @@ one_more l h =
 
 -- a first word that is no number; that is the last; that others follow
 module _ (l : List ℕ) where
-  pub word_last : (v : ℕ) → index_of 32 l ≡ length l → read_decimal (take (index_of 32 l) l) ≡ Value v → words_in l ≡ before (Value v) (Numbers [])
+  pub word_last : (v : ℕ) → index_of 32 l ≡ length l → read_decimal (take (index_of 32 l) l) ≡ Some v → words_in l ≡ before (Some v) (Numbers [])
   unfolding read_words
   word_last v e r = ap read_words (all_one l e) ∙ ap (λ x. before x (Numbers [])) r
 
-  pub word_more : (v : ℕ) → index_of 32 l < length l → read_decimal (take (index_of 32 l) l) ≡ Value v
-      → words_in l ≡ before (Value v) (words_in (unspaced (drop (suc (index_of 32 l)) l)))
+  pub word_more : (v : ℕ) → index_of 32 l < length l → read_decimal (take (index_of 32 l) l) ≡ Some v
+      → words_in l ≡ before (Some v) (words_in (unspaced (drop (suc (index_of 32 l)) l)))
   unfolding read_words
   word_more v h r = ap read_words (one_more l h) ∙ ap (λ x. before x (words_in (unspaced (drop (suc (index_of 32 l)) l)))) r
 
-  pub word_odd : read_decimal (take (index_of 32 l) l) ≡ Unread → words_in l ≡ Unfit
+  pub word_odd : read_decimal (take (index_of 32 l) l) ≡ None → words_in l ≡ Unfit
   unfolding read_words
   word_odd r =
       ⊎_elim (λ e. ap read_words (all_one l e) ∙ ap (λ x. before x (Numbers [])) r)
@@ -70,7 +69,7 @@ behind_none : (row : Row) → row ≡ behind [] row
 behind_none (Numbers ms) = refl
 behind_none Unfit = refl
 
-behind_more : (ns : List ℕ) (v : ℕ) (row : Row) → behind ns (before (Value v) row) ≡ behind (ns ++ (v ∷ [])) row
+behind_more : (ns : List ℕ) (v : ℕ) (row : Row) → behind ns (before (Some v) row) ≡ behind (ns ++ (v ∷ [])) row
 behind_more ns v (Numbers ms) = ap Numbers (sym (append_assoc ns (v ∷ []) ms))
 behind_more ns v Unfit = refl
 
@@ -85,7 +84,7 @@ pub so_start : (line was : List ℕ) (k : ℕ) → 0 < length line → SoFar lin
 unfolding bytes_of
 so_start line was k h = record { ns = []; many = refl; reads = row_some line h ∙ behind_none (words_in line); holds = refl }
 
-pub so_more : {line was image after : List ℕ} {k n : ℕ} {row : Row} (v : ℕ) (rest : Row) → SoFar line was image k n row → row ≡ before (Value v) rest
+pub so_more : {line was image after : List ℕ} {k n : ℕ} {row : Row} (v : ℕ) (rest : Row) → SoFar line was image k n row → row ≡ before (Some v) rest
     → after ≡ sets image (2 * (k + n)) (bytes_of (v ∷ [])) → SoFar line was after k (n + 1) rest
 so_more {line} {was} {image} {after} {k} {n} v rest s e h =
     let at : 2 * k + length (bytes_of s.ns) ≡ 2 * (k + n) = omega (arith, bytes_length s.ns, s.many) in
@@ -97,19 +96,19 @@ so_more {line} {was} {image} {after} {k} {n} v rest s e h =
     }
 
 -- it ends as a line that does not fit, whatever is laid; or with its numbers
-pub so_odd : {line was image : List ℕ} {k n : ℕ} {row : Row} (after : List ℕ) → SoFar line was image k n row → row ≡ Unfit → ReadsLine line k was counted.Unfit after
+pub so_odd : {line was image : List ℕ} {k n : ℕ} {row : Row} (after : List ℕ) → SoFar line was image k n row → row ≡ Unfit → ReadsLine line k was None after
 so_odd {line} after s e =
     let odd : row_of line ≡ Unfit = s.reads ∙ ap (behind s.ns) e in
     (rw odd, λ ms is. (let no : ◌≡◌ {A = ℕ} 0 1 = cc in absurd (omega arith)))
 
 pub so_end : {line was image : List ℕ} {k n : ℕ} → SoFar line was image k n (Numbers []) → n ≤ length line
-    → ReadsLine line k was (counted.Numbers n) image
+    → ReadsLine line k was (Some n) image
 so_end {line} {was} {image} {k} {n} s few =
     let is : row_of line ≡ Numbers s.ns = s.reads ∙ ap Numbers (append-nil s.ns) in
-    (rw is (ap counted.Numbers (sym s.many)), λ ms e. (let same : s.ns ≡ ms = cc in (rw (← same) (omega (arith, s.many)), s.holds ∙ ap (λ l. sets was (2 * k) (bytes_of l)) same)))
+    (rw is (ap Some (sym s.many)), λ ms e. (let same : s.ns ≡ ms = cc in (rw (← same) (omega (arith, s.many)), s.holds ∙ ap (λ l. sets was (2 * k) (bytes_of l)) same)))
 
 -- a line of no byte
-pub so_empty : (line was : List ℕ) (k : ℕ) → length line ≡ 0 → ReadsLine line k was (counted.Numbers 0) was
+pub so_empty : (line was : List ℕ) (k : ℕ) → length line ≡ 0 → ReadsLine line k was (Some 0) was
 unfolding row_of bytes_of
 so_empty [] was k e = (refl, λ ms is. (let same : ◌≡◌ {A = List ℕ} [] ms = cc in (rw (← same) (omega arith), ap (λ l. sets was (2 * k) (bytes_of l)) same)))
 so_empty (c ∷ cs) was k e = absurd (omega arith)

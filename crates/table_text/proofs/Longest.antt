@@ -192,4 +192,4 @@ module _ (img : List ℕ) (s : Sound img) where
 
 pub longest_text : LongestText
 unfolding LongestText
-longest_text image fine = all_short image (accepted image (shape_of image) (check_fine image fine)).1
+longest_text image kept = all_short image (accepted image (shape_of image) (check_fine image kept)).1

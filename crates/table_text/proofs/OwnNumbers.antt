@@ -11,7 +11,7 @@ use Rattle.image.specs.Words.{version_of, word_at, shape_of, size_of}
 use Rattle.image.specs.Check.{counts_good, offsets_good, header_good, head_fault, body_fault, fault_of}
 use Rattle.image.specs.declared.words.Shape.{Shape}
 use Rattle.refusal.specs.declared.Refusal.TheVariants.{Short, Header, Length}
-use Rattle.refusal.specs.declared.Verdict.TheVariants.{Fine}
+use Rattle.refusal.specs.Verdict.{fine, rule}
 use Rattle.refusal.proofs.Verdicts.{rule_yes, or_on}
 use Rattle.table_text.specs.Lines.{parts, numbers_of}
 use Rattle.table_text.specs.OwnNumbers.{OwnNumbers, HeaderFromCounts}
@@ -37,12 +37,12 @@ only_body : (img : List ℕ) → header_good (version_of img) (shape_of img) ≡
     → fault_of img ≡ body_fault img
 unfolding fault_of head_fault
 only_body img good whole long =
-    let head : head_fault img (eqb (length img) (size_of img)) ≡ Fine =
-    sym (rule_yes _ Header 0 _ good (rule_yes _ Length 0 Fine (eq-eqb (length img) (size_of img) whole) refl)) in
+    let head : head_fault img (eqb (length img) (size_of img)) ≡ fine =
+    sym (rule_yes _ Header 0 _ good (rule_yes _ Length 0 fine (eq-eqb (length img) (size_of img) whole) refl)) in
     sym (rule_yes (leb 16 (length img)) Short 0 _ (le-leb 16 (length img) long) (sym (or_on _ (body_fault img) head)))
 
 -- the image of a text: its header's numbers are the text's, and it is as long as they say
-module _ (text : List ℕ) (fine : text_fault text ≡ Fine) where
+module _ (text : List ℕ) (kept : text_fault text ≡ fine) where
   text_shape : shape_of (image_of text) ≡ counts_in text
   unfolding image_of
   text_shape = shape_made (counts_in text) (numbers_of (drop 1 (parts 10 text)))
@@ -57,7 +57,7 @@ module _ (text : List ℕ) (fine : text_fault text ≡ Fine) where
 
   text_length : length (image_of text) ≡ (counts_in text).list_at + 2 * (counts_in text).entries
   unfolding image_of
-  text_length = rw (text_numbers text fine) (made_length (rows_of_text text) (counts_in text) (text_counts text fine) (text_shaped text fine))
+  text_length = rw (text_numbers text kept) (made_length (rows_of_text text) (counts_in text) (text_counts text kept) (text_shaped text kept))
 
   -- so the header keeps its rules where the counts do
   text_header : counts_good 1 (counts_in text) ≡ true → header_good (version_of (image_of text)) (shape_of (image_of text)) ≡ true
@@ -73,8 +73,8 @@ module _ (text : List ℕ) (fine : text_fault text ≡ Fine) where
 
 pub own_numbers : OwnNumbers
 unfolding OwnNumbers
-own_numbers text fine good = only_body (image_of text) (text_header text fine good) (text_whole text fine) (text_long text fine)
+own_numbers text kept good = only_body (image_of text) (text_header text kept good) (text_whole text kept) (text_long text kept)
 
 pub header_from_counts : HeaderFromCounts
-unfolding HeaderFromCounts
-header_from_counts text out fine bad = write_header text out fine bad
+unfolding HeaderFromCounts rule
+header_from_counts text out kept bad = write_header text out kept _ (rw bad)

@@ -10,8 +10,7 @@ use lib.ListN.{length, drop, get_or, length-append}
 use Rattle.lists.proofs.Laws.{every_head}
 use Rattle.lists.specs.Lists.{every}
 use Rattle.number.specs.Number.{is_digit, read_decimal}
-use Rattle.number.specs.declared.Number.{Number}
-use Rattle.number.specs.declared.Number.TheVariants.{Value, Unread}
+use Rattle.std.specs.Prelude.{Option, Some, None}
 use Rattle.text.specs.Text.{decimal_of}
 use Rattle.table_text.proofs.Decimal.{decimal_some, decimal_no_space, decimal_no_newline, read_written, unzeroed_word}
 use Rattle.table_text.proofs.Parts.{free, free_head, free_append, parts_cut, parts_none, parts_some, single_free, single_none, single_past}
@@ -80,15 +79,15 @@ joined_parts d (c ∷ cs) = go (eqb c d) refl (joined_parts d cs)
 
 -- words that were read: the first is the first number, and the others were read
 pub words_first : (w : List ℕ) (ws : List (List ℕ)) (ns : List ℕ) → read_words (w ∷ ws) ≡ Numbers ns
-    → (n : ℕ) × (ms : List ℕ) × (ns ≡ n ∷ ms) × (read_decimal w ≡ Value n) × (read_words ws ≡ Numbers ms)
+    → (n : ℕ) × (ms : List ℕ) × (ns ≡ n ∷ ms) × (read_decimal w ≡ Some n) × (read_words ws ≡ Numbers ms)
 unfolding read_words
 words_first w ws ns e = go (read_decimal w) (read_words ws) refl refl e
   where
-    go : (x : Number) (row : Row) → read_decimal w ≡ x → read_words ws ≡ row → before x row ≡ Numbers ns
-        → (n : ℕ) × (ms : List ℕ) × (ns ≡ n ∷ ms) × (read_decimal w ≡ Value n) × (read_words ws ≡ Numbers ms)
-    go (Value n) (Numbers ms) p q r = (n, ms, cc, p, q)
-    go (Value n) Unfit p q r = let z : ◌≡◌ {A = ℕ} 0 1 = cc in absurd (omega arith)
-    go Unread row p q r = let z : ◌≡◌ {A = ℕ} 0 1 = cc in absurd (omega arith)
+    go : (x : Option ℕ) (row : Row) → read_decimal w ≡ x → read_words ws ≡ row → before x row ≡ Numbers ns
+        → (n : ℕ) × (ms : List ℕ) × (ns ≡ n ∷ ms) × (read_decimal w ≡ Some n) × (read_words ws ≡ Numbers ms)
+    go (Some n) (Numbers ms) p q r = (n, ms, cc, p, q)
+    go (Some n) Unfit p q r = let z : ◌≡◌ {A = ℕ} 0 1 = cc in absurd (omega arith)
+    go None row p q r = let z : ◌≡◌ {A = ℕ} 0 1 = cc in absurd (omega arith)
 
 -- joined by spaces, and without leading zeros, they are the numbers' line
 pub words_plain : (w : List ℕ) (ws : List (List ℕ)) (ns : List ℕ) → read_words (w ∷ ws) ≡ Numbers ns

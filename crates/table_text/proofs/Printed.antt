@@ -3,6 +3,7 @@ use Prim.Native.Nat.{ℕ, zero, suc, ◌+◌, ◌*◌, ◌-◌, ◌<◌, ◌≤�
 use mathlib.Core.Bool.{Bool, true, false, cond}
 use mathlib.Core.List.{List, [], ◌∷◌, ◌++◌, append_assoc}
 use mathlib.Core.Path.{◌≡◌, refl, sym, ap, ◌∙◌}
+use native.Mathlib.Nat.{mul-suc}
 use native.Mathlib.Omega.{arith}
 use borrow.Author.Tests.{eq-eqb, ne_eqb, eqb-true, eqb-false}
 use lib.Dec.{eqb}
@@ -69,18 +70,18 @@ unfolding marked words_from
 marks_none img at n e = rw e
 
 -- one line more
-pub lines_on : (img : List ℕ) (at left width : ℕ) → 0 < left
-    → text_from (rows_from img at left width) ≡ line_of (words_from img at width) ++ text_from (rows_from img (at + 2 * width) (left - 1) width)
+pub lines_on : (img : List ℕ) (from count width i : ℕ) → i < count
+    → text_from (rows_from img (from + 2 * width * i) (count - i) width)
+    ≡ line_of (words_from img (from + 2 * width * i) width) ++ text_from (rows_from img (from + 2 * width * (i + 1)) (count - (i + 1)) width)
 unfolding text_from rows_from
-lines_on img at left width h =
-    let k : left ≡ suc (left - 1) = omega arith in
-    ap (λ n. text_from (rows_from img at n width)) k
+lines_on img from count width i h =
+    let k : count - i ≡ suc (count - (i + 1)) = omega arith in
+    let p : from + 2 * width * i + 2 * width ≡ from + 2 * width * (i + 1) = omega (arith, mul-suc (2 * width) i) in
+    rw (k, p)
 
-pub lines_none : (img : List ℕ) (at left width : ℕ) → left ≤ 0 → text_from (rows_from img at left width) ≡ []
+pub lines_none : (img : List ℕ) (at left width : ℕ) → left ≡ 0 → text_from (rows_from img at left width) ≡ []
 unfolding text_from rows_from
-lines_none img at left width h =
-    let k : left ≡ 0 = omega arith in
-    rw k
+lines_none img at left width e = rw e
 
 pub lines_short : (img : List ℕ) (at n width : ℕ) → 1 ≤ width → width ≤ 16 → length (text_from (rows_from img at n width)) ≤ 96 * n
 unfolding text_from rows_from

@@ -12,9 +12,8 @@ use Rattle.image.specs.declared.words.Shape.{Shape}
 use Rattle.lists.proofs.Laws.{both_true, every_head}
 use Rattle.lists.specs.Lists.{every}
 use Rattle.refusal.proofs.Verdicts.{rule_fine}
-use Rattle.refusal.specs.Verdict.{rule}
+use Rattle.refusal.specs.Verdict.{fine, rule}
 use Rattle.refusal.specs.declared.Refusal.TheVariants.{Text}
-use Rattle.refusal.specs.declared.Verdict.TheVariants.{Fine}
 use Rattle.table_text.proofs.Parts.{parts_cut, parts_some}
 use Rattle.table_text.proofs.PlainText.{plain_past, joined, joined_parts, line_plain, written, line_written, written_free, row_back}
 use Rattle.table_text.proofs.Rows.{flat, shaped, small}
@@ -40,10 +39,10 @@ fits_row s i (Numbers ns) e = (refl, e)
 fits_row s i Unfit e = (cc, cc)
 
 -- the last part fits: it is empty, and no line is missing
-pub last_fits : (s : Shape) (i : ℕ) (p : List ℕ) → lines_fault s i (p ∷ []) ≡ Fine → (p ≡ []) × (ltb (lines_asked s) i ≡ true)
+pub last_fits : (s : Shape) (i : ℕ) (p : List ℕ) → lines_fault s i (p ∷ []) ≡ fine → (p ≡ []) × (ltb (lines_asked s) i ≡ true)
 unfolding lines_fault
 last_fits s i p e =
-    let h = both_true (eqb (length p) 0) (ltb (lines_asked s) i) (rule_fine _ Text i Fine e).0 in
+    let h = both_true (eqb (length p) 0) (ltb (lines_asked s) i) (rule_fine _ Text i fine e).0 in
     (none p (eqb-true (length p) 0 h.0), h.1)
   where
     none : (l : List ℕ) → length l ≡ 0 → l ≡ []
@@ -51,8 +50,8 @@ last_fits s i p e =
     none (c ∷ cs) z = absurd (omega arith)
 
 -- a closed line fits, and those behind it
-pub line_fits : (s : Shape) (i : ℕ) (p q : List ℕ) (ps : List (List ℕ)) → lines_fault s i (p ∷ q ∷ ps) ≡ Fine
-    → (row_of p ≡ Numbers (numbers_in (row_of p))) × (asks s i (length (numbers_in (row_of p))) ≡ true) × (lines_fault s (i + 1) (q ∷ ps) ≡ Fine)
+pub line_fits : (s : Shape) (i : ℕ) (p q : List ℕ) (ps : List (List ℕ)) → lines_fault s i (p ∷ q ∷ ps) ≡ fine
+    → (row_of p ≡ Numbers (numbers_in (row_of p))) × (asks s i (length (numbers_in (row_of p))) ≡ true) × (lines_fault s (i + 1) (q ∷ ps) ≡ fine)
 unfolding lines_fault
 line_fits s i p q ps e =
     let h = rule_fine (fits_at s i (row_of p)) Text i (lines_fault s (i + 1) (q ∷ ps)) e in
@@ -60,7 +59,7 @@ line_fits s i p q ps e =
     (r.0, r.1, h.1)
 
 -- of parts that fit: their rows are as the counts ask, of words; their numbers are the rows'; their plain form is the rows' text
-pub parts_shaped : (s : Shape) (i : ℕ) (p : List ℕ) (ps : List (List ℕ)) → lines_fault s i (p ∷ ps) ≡ Fine
+pub parts_shaped : (s : Shape) (i : ℕ) (p : List ℕ) (ps : List (List ℕ)) → lines_fault s i (p ∷ ps) ≡ fine
     → shaped s i (rows_of_parts (p ∷ ps)) ≡ true
 unfolding rows_of_parts shaped
 parts_shaped s i p [] e = (last_fits s i p e).1
@@ -68,7 +67,7 @@ parts_shaped s i p (q ∷ ps) e =
     let h = line_fits s i p q ps e in
     rw h.1 (parts_shaped s (i + 1) q ps h.2)
 
-pub parts_numbers : (s : Shape) (i : ℕ) (p : List ℕ) (ps : List (List ℕ)) → lines_fault s i (p ∷ ps) ≡ Fine
+pub parts_numbers : (s : Shape) (i : ℕ) (p : List ℕ) (ps : List (List ℕ)) → lines_fault s i (p ∷ ps) ≡ fine
     → numbers_of (p ∷ ps) ≡ flat (rows_of_parts (p ∷ ps))
 unfolding rows_of_parts numbers_of flat row_of numbers_in
 parts_numbers s i p [] e = rw (last_fits s i p e).0
@@ -76,13 +75,13 @@ parts_numbers s i p (q ∷ ps) e =
     let h = line_fits s i p q ps e in
     ap (λ (x : List ℕ). numbers_in (row_of p) ++ x) (parts_numbers s (i + 1) q ps h.2)
 
-pub parts_others : (s : Shape) (i : ℕ) (p : List ℕ) (ps : List (List ℕ)) → lines_fault s i (p ∷ ps) ≡ Fine
+pub parts_others : (s : Shape) (i : ℕ) (p : List ℕ) (ps : List (List ℕ)) → lines_fault s i (p ∷ ps) ≡ fine
     → numbers_of ps ≡ flat (drop 1 (rows_of_parts (p ∷ ps)))
 unfolding rows_of_parts numbers_of flat
 parts_others s i p [] e = refl
 parts_others s i p (q ∷ ps) e = parts_numbers s (i + 1) q ps (line_fits s i p q ps e).2
 
-pub parts_first : (s : Shape) (i : ℕ) (p : List ℕ) (ps : List (List ℕ)) → lines_fault s i (p ∷ ps) ≡ Fine
+pub parts_first : (s : Shape) (i : ℕ) (p : List ℕ) (ps : List (List ℕ)) → lines_fault s i (p ∷ ps) ≡ fine
     → numbers_in (row_of p) ≡ get_or (rows_of_parts (p ∷ ps)) 0 []
 unfolding rows_of_parts row_of numbers_in
 parts_first s i p [] e = rw (last_fits s i p e).0
@@ -92,7 +91,7 @@ pub plain_none : plain [] ≡ []
 unfolding plain single unzeroed
 plain_none = refl
 
-pub parts_plain : (s : Shape) (i : ℕ) (p : List ℕ) (ps : List (List ℕ)) → lines_fault s i (p ∷ ps) ≡ Fine
+pub parts_plain : (s : Shape) (i : ℕ) (p : List ℕ) (ps : List (List ℕ)) → lines_fault s i (p ∷ ps) ≡ fine
     → plain (joined 10 (p ∷ ps)) ≡ text_from (rows_of_parts (p ∷ ps))
 unfolding rows_of_parts joined text_from
 parts_plain s i p [] e = rw (last_fits s i p e).0 plain_none
@@ -102,10 +101,10 @@ parts_plain s i p (q ∷ ps) e =
     ∙ rw (← line_plain p (numbers_in (row_of p)) h.0, append_snoc, parts_plain s (i + 1) q ps h.2)
 
 -- so of a text that fits
-module _ (text : List ℕ) (fine : text_fault text ≡ Fine) where
-  pub fine_parts : lines_fault (counts_in text) 1 (get_or (parts 10 text) 0 [] ∷ drop 1 (parts 10 text)) ≡ Fine
+module _ (text : List ℕ) (kept : text_fault text ≡ fine) where
+  pub fine_parts : lines_fault (counts_in text) 1 (get_or (parts 10 text) 0 [] ∷ drop 1 (parts 10 text)) ≡ fine
   unfolding text_fault
-  fine_parts = sym (ap (lines_fault (counts_in text) 1) (parts_some 10 text)) ∙ fine
+  fine_parts = sym (ap (lines_fault (counts_in text) 1) (parts_some 10 text)) ∙ kept
 
   pub text_shaped : shaped (counts_in text) 1 (rows_of_text text) ≡ true
   unfolding rows_of_text
@@ -156,7 +155,7 @@ row_fits s i row k e = rw (row_back row k) e
 
 -- so the text of rows of words that are as the counts ask fits, and gives the rows' numbers and counts back
 pub rows_fine : (s : Shape) (i : ℕ) (rows : List (List ℕ)) → small rows ≡ true → shaped s i rows ≡ true
-    → lines_fault s i (parts 10 (text_from rows)) ≡ Fine
+    → lines_fault s i (parts 10 (text_from rows)) ≡ fine
 unfolding shaped text_from parts lines_fault rule
 rows_fine s i [] k e = rw e
 rows_fine s i (row ∷ rows) k e =
@@ -187,6 +186,6 @@ rows_counts (row ∷ rows) k =
     ∙ rw (row_back row (small_head row rows k).0)
 
 pub rows_fit : (rows : List (List ℕ)) → small rows ≡ true → shaped (shape_from (get_or rows 0 [])) 1 rows ≡ true
-    → text_fault (text_from rows) ≡ Fine
+    → text_fault (text_from rows) ≡ fine
 unfolding text_fault
 rows_fit rows k e = rw (rows_counts rows k) (rows_fine (shape_from (get_or rows 0 [])) 1 rows k e)

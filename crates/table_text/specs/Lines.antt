@@ -1,9 +1,7 @@
 -- The numbers of a text, line by line: document 02, W-201. Bytes are ASCII: 10 is the newline, 32 the space.
 -- Assumes nothing.
-use Rattle.std.specs.Prelude.{ℕ, Bool, false, cond, ◌&&◌, List, [], ◌∷◌, ◌++◌, eqb}
+use Rattle.std.specs.Prelude.{ℕ, Bool, false, cond, ◌&&◌, List, [], ◌∷◌, ◌++◌, eqb, Option, Some, None}
 use Rattle.number.specs.Number.{read_decimal}
-use Rattle.number.specs.declared.Number.{Number}
-use Rattle.number.specs.declared.Number.TheVariants.{Value, Unread}
 
 -- one byte more in front of the first part
 unfoldable pub ahead : ℕ → List (List ℕ) → List (List ℕ)
@@ -30,10 +28,10 @@ pub data Row : Type 0 where
   Numbers : List ℕ → Row
   Unfit : Row
 
-abbrev pub before : Number → Row → Row
-before (Value n) (Numbers ns) = Numbers (n ∷ ns)
-before (Value n) Unfit = Unfit
-before Unread row = Unfit
+abbrev pub before : Option ℕ → Row → Row
+before (Some n) (Numbers ns) = Numbers (n ∷ ns)
+before (Some n) Unfit = Unfit
+before None row = Unfit
 
 unfoldable pub read_words : List (List ℕ) → Row
 read_words [] = Numbers []

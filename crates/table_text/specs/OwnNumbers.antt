@@ -3,19 +3,18 @@
 -- Assumes nothing.
 use Rattle.std.specs.Prelude.{ℕ, true, false, List, ◌≡◌}
 use Rattle.image.specs.Check.{counts_good, body_fault, fault_of}
+use Rattle.refusal.specs.Verdict.{fine, refused}
 use Rattle.refusal.specs.declared.Refusal.TheVariants.{Header}
-use Rattle.refusal.specs.declared.Verdict.TheVariants.{Fine}
 use Rattle.table_text.specs.Write.{counts_in, text_fault, image_of, write_reply}
-use Rattle.table_text.specs.declared.Made.TheVariants.{Refused}
 
 -- the image of such a text has no fault but a cell's or a record's
 unfoldable pub OwnNumbers : Type 0
 OwnNumbers =
-    (text : List ℕ) → text_fault text ≡ Fine → counts_good 1 (counts_in text) ≡ true
+    (text : List ℕ) → text_fault text ≡ fine → counts_good 1 (counts_in text) ≡ true
     → fault_of (image_of text) ≡ body_fault (image_of text)
 
 -- counts that are not legal are refused by Header, and the buffer is as it was
 unfoldable pub HeaderFromCounts : Type 0
 HeaderFromCounts =
-    (text out : List ℕ) → text_fault text ≡ Fine → counts_good 1 (counts_in text) ≡ false
-    → write_reply text out ≡ record { made = Refused Header 0; buffer = out }
+    (text out : List ℕ) → text_fault text ≡ fine → counts_good 1 (counts_in text) ≡ false
+    → write_reply text out ≡ record { made = refused Header 0; buffer = out }

@@ -3,10 +3,8 @@
 use Rattle.std.specs.Prelude.{ℕ, zero, suc, ◌+◌, ◌*◌, List, [], ◌∷◌, ◌++◌, leb, length}
 use Rattle.image.specs.Check.{fault_of}
 use Rattle.image.specs.Words.{layers_of, rows_of, columns_of, records_of, entries_of, records_start, list_start, words_from}
-use Rattle.refusal.specs.Verdict.{rule, or_else}
+use Rattle.refusal.specs.Verdict.{Verdict, fine, rule, or_else}
 use Rattle.refusal.specs.declared.Refusal.TheVariants.{Room}
-use Rattle.refusal.specs.declared.Verdict.{Verdict}
-use Rattle.refusal.specs.declared.Verdict.TheVariants.{Fine}
 use Rattle.text.specs.Text.{decimal_of}
 use Rattle.table_text.specs.Made.{Reply, reply_of}
 
@@ -39,7 +37,7 @@ text_of img = text_from (rows_in img)
 
 -- the image's own fault; then 12 Room for a buffer of this length that is shorter than the text
 unfoldable pub print_verdict : List ℕ → ℕ → Verdict
-print_verdict img room = or_else (fault_of img) (rule (leb (length (text_of img)) room) Room 0 Fine)
+print_verdict img room = or_else (fault_of img) (rule (leb (length (text_of img)) room) Room 0 fine)
 
 unfoldable pub print_reply : List ℕ → List ℕ → Reply
 print_reply img out = reply_of (print_verdict img (length out)) (text_of img) out

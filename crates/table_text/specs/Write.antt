@@ -3,10 +3,8 @@
 use Rattle.std.specs.Prelude.{ℕ, ◌+◌, ◌*◌, ◌/◌, ◌%◌, Bool, false, cond, ◌&&◌, List, [], ◌∷◌, eqb, leb, ltb, length, get_or, drop}
 use Rattle.image.specs.Check.{counts_good, fault_of}
 use Rattle.image.specs.declared.words.Shape.{Shape}
-use Rattle.refusal.specs.Verdict.{rule, or_else}
+use Rattle.refusal.specs.Verdict.{Verdict, fine, rule, or_else}
 use Rattle.refusal.specs.declared.Refusal.TheVariants.{Header, Room, Text}
-use Rattle.refusal.specs.declared.Verdict.{Verdict}
-use Rattle.refusal.specs.declared.Verdict.TheVariants.{Fine}
 use Rattle.table_text.specs.Lines.{parts, Row, Numbers, Unfit, row_of, numbers_in, numbers_of}
 use Rattle.table_text.specs.Made.{Reply, reply_of}
 
@@ -44,8 +42,8 @@ fits_at s i Unfit = false
 -- 15 Text, with the first line that does not fit, is missing or is left over: of a text parted at its newlines, from line i on.
 -- The last part, which there always is, is not closed. It is no line where it is empty, and no line may then be missing
 unfoldable pub lines_fault : Shape → ℕ → List (List ℕ) → Verdict
-lines_fault s i [] = Fine
-lines_fault s i (part ∷ []) = rule (eqb (length part) 0 && ltb (lines_asked s) i) Text i Fine
+lines_fault s i [] = fine
+lines_fault s i (part ∷ []) = rule (eqb (length part) 0 && ltb (lines_asked s) i) Text i fine
 lines_fault s i (line ∷ (next ∷ more)) = rule (fits_at s i (row_of line)) Text i (lines_fault s (i + 1) (next ∷ more))
 
 -- the counts of a text, on its first line; where that does not fit, nothing hangs on them
@@ -76,7 +74,7 @@ unfoldable pub write_verdict : List ℕ → ℕ → Verdict
 write_verdict text room =
     or_else (text_fault text)
     (rule (counts_good 1 (counts_in text)) Header 0
-    (or_else (fault_of (image_of text)) (rule (leb (length (image_of text)) room) Room 0 Fine)))
+    (or_else (fault_of (image_of text)) (rule (leb (length (image_of text)) room) Room 0 fine)))
 
 unfoldable pub write_reply : List ℕ → List ℕ → Reply
 write_reply text out = reply_of (write_verdict text (length out)) (image_of text) out

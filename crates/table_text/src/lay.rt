@@ -30,6 +30,7 @@ fn lay_place(n: usize, unit: usize, out: &mut [u8], at: usize) -> usize
 }
 
 // A number in decimal, and a byte behind it.
+#[tactic(auto, using(crate::proofs::Decimal::place_short))]
 fn lay_number(n: usize, mark: u8, out: &mut [u8], at: usize) -> usize
     requires { at < 900000 }
     ensures { Lays (decimal_of n ++ (mark ∷ [])) at out.old result out.new }
@@ -57,11 +58,9 @@ fn lay_line(image: &[u8], from: usize, width: usize, out: &mut [u8], at: usize) 
     ensures { Lays (line_of (words_from image.now from width)) at out.old result out.new }
 {
     let mut to = at;
-    let mut i = 0;
-    while i < width {
+    for i in 0..width {
         let n = word_or_zero(image, (from + 2 * i) as u64) as usize;
         to = lay_number(n, mark_behind(i, width), out, to);
-        i += 1;
     }
     to
 }
@@ -79,12 +78,8 @@ fn lay_lines(
     ensures { Lays (text_from (rows_from image.now from count width)) at out.old result out.new }
 {
     let mut to = at;
-    let mut place = from;
-    let mut left = count;
-    while 0 < left {
-        to = lay_line(image, place, width, out, to);
-        place += 2 * width;
-        left -= 1;
+    for i in 0..count {
+        to = lay_line(image, from + 2 * width * i, width, out, to);
     }
     to
 }

@@ -10,71 +10,31 @@ mod lines;
 mod read;
 mod scan;
 
-ghost use Rattle.std.specs.Prelude.{◌≡◌, ◌+◌, ◌*◌, length};
-ghost use Rattle.table_text.specs.Made.{told_of, Replies};
+ghost use Rattle.std.specs.Prelude.{◌≡◌, ◌+◌, ◌*◌};
+ghost use Rattle.table_text.specs.Made.{Replies};
 ghost use Rattle.table_text.specs.Write.{write_reply};
 ghost use Rattle.table_text.specs.Print.{print_reply};
-ghost use Rattle.table_text.specs.Inside.{Small, refused_as, checked_reply, headed_of};
+ghost use Rattle.table_text.specs.Inside.{Small, checked_reply, headed_of};
 
-use image::{Checked, Shape, counts_good};
+use image::{Shape, check, counts_good};
 use lay::lay_text;
 use lines::{LARGEST, put_word};
-use read::{Judged, read_text};
-use refusal::{Refusal, Told};
-
-// How many bytes were made; or the first refusal, and its place.
-#[derive(Clone, Copy)]
-pub enum Made {
-    Bytes(usize),
-    Refused(Refusal, usize),
-}
-
-impl Made {
-    // The paper's number and place, for programs that print them.
-    pub fn told(self) -> Told
-        ensures { result ≡ told_of self }
-    {
-        match self {
-            Made::Bytes(_) => Told {
-                number: 0,
-                place: 0,
-            },
-            Made::Refused(refusal, place) => Told {
-                number: refusal.number(),
-                place,
-            },
-        }
-    }
-}
-
-// An image that the check refuses is refused here too.
-fn refused_by(checked: Checked) -> Made
-    ensures { result ≡ refused_as checked }
-{
-    match checked {
-        Checked::Accepted(_) => Made::Bytes(0),
-        Checked::Refused(refusal, place) => Made::Refused(refusal, place),
-    }
-}
+use read::read_text;
+use refusal::{Fault, Refusal, rule};
 
 // An image that is built is checked, and handed over where it is accepted and there is room.
-fn hand_over(image: &[u8], out: &mut [u8]) -> Made
+fn hand_over(image: &[u8], out: &mut [u8]) -> Result<usize, Fault>
     ensures { Replies (checked_reply image.now out.old) result out.new }
 {
-    let checked = image::check(image);
-    let Checked::Accepted(_) = checked else {
-        return refused_by(checked);
-    };
-    if out.len() < image.len() {
-        return Made::Refused(Refusal::Room, 0);
-    }
+    check(image)?;
+    rule(image.len() <= out.len(), Refusal::Room, 0)?;
     out[..image.len()].copy_from_slice(image);
-    Made::Bytes(image.len())
+    Ok(image.len())
 }
 
 // An image that is built gets its version and its offsets. How long it is.
 fn put_header(image: &mut [u8; LARGEST], s: Shape) -> usize
-    requires { (length image.old ≡ 6160) × Small s }
+    requires { Small s }
     ensures { (result ≡ s.list_at + 2 * s.entries) × (image.new ≡ headed_of s image.old) }
 {
     put_word(image, 0, 1);
@@ -84,35 +44,22 @@ fn put_header(image: &mut [u8; LARGEST], s: Shape) -> usize
 }
 
 // The image of a text, built aside, so that a refused call writes nothing.
-pub fn write(text: &[u8], out: &mut [u8]) -> Made
+pub fn write(text: &[u8], out: &mut [u8]) -> Result<usize, Fault>
     ensures { Replies (write_reply text.now out.old) result out.new }
 {
     let mut image = [0u8; LARGEST];
-    let judged = read_text(text, &mut image);
-    match judged {
-        Judged::Line(line) => Made::Refused(Refusal::Text, line),
-        Judged::Fits(s) => {
-            if !counts_good(1, s) {
-                return Made::Refused(Refusal::Header, 0);
-            }
-            let size = put_header(&mut image, s);
-            hand_over(&image[..size], out)
-        }
-    }
+    let s = read_text(text, &mut image)?;
+    rule(counts_good(1, s), Refusal::Header, 0)?;
+    let size = put_header(&mut image, s);
+    hand_over(&image[..size], out)
 }
 
 // The text of an image. It is measured first, by laying it into no room, so that a refused call writes nothing.
-pub fn print(image: &[u8], out: &mut [u8]) -> Made
+pub fn print(image: &[u8], out: &mut [u8]) -> Result<usize, Fault>
     ensures { Replies (print_reply image.now out.old) result out.new }
 {
-    let checked = image::check(image);
-    let Checked::Accepted(s) = checked else {
-        return refused_by(checked);
-    };
-    let mut none = [0u8; 1];
-    let size = lay_text(image, s, &mut none[..0]);
-    if out.len() < size {
-        return Made::Refused(Refusal::Room, 0);
-    }
-    Made::Bytes(lay_text(image, s, out))
+    let s = check(image)?;
+    let size = lay_text(image, s, &mut []);
+    rule(size <= out.len(), Refusal::Room, 0)?;
+    Ok(lay_text(image, s, out))
 }

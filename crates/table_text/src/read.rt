@@ -3,19 +3,16 @@
 // Assumes nothing.
 ghost use Rattle.std.specs.Prelude.{◌≡◌, ◌≤◌, length, drop};
 ghost use Rattle.image.specs.Words.{words_from};
-ghost use Rattle.table_text.specs.Write.{shape_from, asks, lines_asked};
-ghost use Rattle.table_text.specs.Inside.{Words, ReadsLines, ReadsText};
+ghost use Rattle.refusal.specs.Verdict.{fault_at};
+ghost use Rattle.refusal.specs.declared.Refusal.TheVariants.{Text};
+ghost use Rattle.image.specs.declared.words.Shape.{Shape};
+ghost use Rattle.table_text.specs.Write.{shape_from, asks};
+ghost use Rattle.table_text.specs.Inside.{Words, asked_by, ReadsLines, ReadsText};
 
-use super::lines::{Counted, LARGEST, read_line};
+use super::lines::{LARGEST, read_line};
 use super::scan::find;
 use image::{Shape, word_or_zero};
-
-// The counts of a text that has the lines that they ask for; or the first line that does not fit, is missing or is left over.
-#[derive(Drop)]
-pub(crate) enum Judged {
-    Fits(Shape),
-    Line(usize),
-}
+use refusal::{Fault, Refusal, rule};
 
 // The five counts, which stand behind the version, and the offsets that they make.
 fn shape_in(image: &[u8]) -> Shape
@@ -38,78 +35,89 @@ fn shape_in(image: &[u8]) -> Shape
     }
 }
 
-// Line i, counted from 1, is asked for with n numbers. The sums pass 32 bits where all counts are as large as they can be.
-fn is_asked(s: Shape, i: usize, n: usize) -> bool
-    requires { Words s }
-    ensures { result ≡ asks s i n }
-{
-    let line = i as u64;
-    let rows_end = 1 + (s.layers as u64) * (s.rows as u64);
-    let records_end = rows_end + (s.records as u64);
-    if line <= 1 {
-        return n == 5;
-    }
-    if line <= rows_end {
-        return n == s.columns;
-    }
-    if line <= records_end {
-        return n == 4;
-    }
-    line <= records_end + (s.entries as u64) && n == 1
+// Which lines the counts ask for: from the second on rows of so many cells, up to one line; records, up to another; then list entries,
+// up to the last.
+#[derive(Clone, Copy)]
+struct Asked {
+    columns: usize,
+    rows_end: usize,
+    records_end: usize,
+    last: usize,
 }
 
-// How many lines are asked for.
-fn lines_asked(s: Shape) -> u64
-    requires { Words s }
-    ensures { result ≡ lines_asked s }
+impl Asked {
+    fn by(s: Shape) -> Asked
+        requires { Words s }
+        ensures { result ≡ asked_by s }
+    {
+        let rows_end = 1 + s.layers * s.rows;
+        let records_end = rows_end + s.records;
+        Asked {
+            columns: s.columns,
+            rows_end,
+            records_end,
+            last: records_end + s.entries,
+        }
+    }
+
+    // Line i, counted from 1, is asked for with n numbers.
+    fn asks(self, i: usize, n: usize) -> bool
+        ensures { (s : Shape) → self ≡ asked_by s → result ≡ asks s i n }
+    {
+        if i <= 1 {
+            return n == 5;
+        }
+        if i <= self.rows_end {
+            return n == self.columns;
+        }
+        if i <= self.records_end {
+            return n == 4;
+        }
+        i <= self.last && n == 1
+    }
+}
+
+// A line that does not fit: one of its words is no number.
+fn unfit(line: usize) -> Fault
+    ensures { result ≡ fault_at Text line }
 {
-    1 + (s.layers as u64) * (s.rows as u64) + (s.records as u64) + (s.entries as u64)
+    Fault {
+        refusal: Refusal::Text,
+        place: line,
+    }
 }
 
 // The lines behind the first, which begin at a place of the text.
-fn read_lines(text: &[u8], image: &mut [u8; LARGEST], s: Shape, from: usize) -> Judged
-    requires { (length image.old ≡ 6160) × (1 ≤ from) × (from ≤ length text.now) × Words s }
+fn read_lines(text: &[u8], image: &mut [u8; LARGEST], s: Shape, from: usize) -> Result<Shape, Fault>
+    requires { (1 ≤ from) × (from ≤ length text.now) × Words s }
     ensures { ReadsLines (drop from text.now) s image.old result image.new }
 {
+    let asked = Asked::by(s);
     let mut at = from;
     let mut line = 2;
     let mut k = 8;
     while at < text.len() {
         let end = find(text, at, b'\n');
-        if end == text.len() {
-            return Judged::Line(line);
-        }
-        let Counted::Numbers(n) = read_line(&text[at..end], image, k) else {
-            return Judged::Line(line);
-        };
-        if !is_asked(s, line, n) {
-            return Judged::Line(line);
-        }
+        rule(end < text.len(), Refusal::Text, line)?;
+        let n = read_line(&text[at..end], image, k).ok_or(unfit(line))?;
+        rule(asked.asks(line, n), Refusal::Text, line)?;
         k += n;
         line += 1;
         at = end + 1;
     }
-    if (line as u64) <= lines_asked(s) {
-        return Judged::Line(line);
-    }
-    Judged::Fits(s)
+    rule(asked.last < line, Refusal::Text, line)?;
+    Ok(s)
 }
 
-// The whole text.
-pub(crate) fn read_text(text: &[u8], image: &mut [u8; LARGEST]) -> Judged
-    requires { length image.old ≡ 6160 }
+// The whole text: the counts of one that has the lines that they ask for; or the first line that does not fit, is missing or is left
+// over.
+pub(crate) fn read_text(text: &[u8], image: &mut [u8; LARGEST]) -> Result<Shape, Fault>
     ensures { ReadsText text.now image.old result image.new }
 {
     let end = find(text, 0, b'\n');
-    if end == text.len() {
-        return Judged::Line(1);
-    }
-    let Counted::Numbers(n) = read_line(&text[..end], image, 1) else {
-        return Judged::Line(1);
-    };
-    if n != 5 {
-        return Judged::Line(1);
-    }
+    rule(end < text.len(), Refusal::Text, 1)?;
+    let n = read_line(&text[..end], image, 1).ok_or(unfit(1))?;
+    rule(n == 5, Refusal::Text, 1)?;
     let s = shape_in(image);
     read_lines(text, image, s, end + 1)
 }

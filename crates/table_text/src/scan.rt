@@ -7,8 +7,6 @@ pub(crate) fn find(bytes: &[u8], from: usize, byte: u8) -> usize
     requires { from ≤ length bytes.now }
     ensures { (result ≡ from + index_of byte (drop from bytes.now)) × (result ≤ length bytes.now) }
 {
-    match bytes[from..].iter().position(|b| *b == byte) {
-        Some(n) => from + n,
-        None => bytes.len(),
-    }
+    let rest = &bytes[from..];
+    from + rest.iter().position(|b| *b == byte).unwrap_or(rest.len())
 }

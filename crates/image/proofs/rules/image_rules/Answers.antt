@@ -26,10 +26,11 @@ returns-in_err-head_rules c =
     let found = sym (header (goal.at.returns-in_err-head_rules c).After-head_rules) ∙ c.in_err-head_rules.was in
     rw (p.1, p.2) (rule_yes _ _ _ _ (le-leb _ _ c.requires.0) (sym found ∙ or_stop _ _ _ found))
 
-pub body_rules-requires : goal.body_rules-requires
-body_rules-requires c = (framed _ (sym (header (goal.at.body_rules-requires c).After-head_rules) ∙ c.in_ok-head_rules.was), c.requires.1)
+pub invariant_of-rules : goal.invariant_of-rules
+invariant_of-rules c =
+    record { framed = framed _ (sym (header (goal.at.invariant_of-rules c).After-head_rules) ∙ c.in_ok-head_rules.was); told = c.requires.1 }
 
 pub returns : goal.returns
 unfolding fault_of
 returns c =
-    rule_yes _ _ _ _ (le-leb _ _ c.requires.0) (c.body_rules.ensures ∙ sym (or_on _ _ (sym (header (goal.at.returns c).After-head_rules) ∙ c.in_ok-head_rules.was)))
+    rule_yes _ _ _ _ (le-leb _ _ c.requires.0) (c.rules.ensures ∙ sym (or_on _ _ (sym (header (goal.at.returns c).After-head_rules) ∙ c.in_ok-head_rules.was)))

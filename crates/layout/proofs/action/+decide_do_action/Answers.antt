@@ -1,7 +1,8 @@
 -- `layout::action::decide` and `layout::action::do_action`, which call each other, meet their contracts: the record number
 -- falls, and each arm does what the tree of its record says. Assumes nothing.
-use Prim.Native.Nat.{ℕ}
+use Prim.Native.Nat.{ℕ, ◌+◌, ◌-◌, ◌≤◌, ◌<◌}
 use mathlib.Core.List.{List}
+use mathlib.Core.Logic.{inl, inr}
 use mathlib.Core.Path.{◌≡◌, refl, sym, ◌∙◌}
 use native.Mathlib.Omega.{arith}
 use native.Mathlib.Nat.{zero-add}
@@ -12,7 +13,6 @@ use Rattle.image.specs.Record.{children_in, codes_in, list_end}
 use Rattle.image.specs.Tree.{Action, NoOp, tree, meaning}
 use Rattle.image.specs.declared.record.Action.{Action as Coded}
 use Rattle.image.specs.declared.record.Action.TheVariants as code
-use Rattle.image.proofs.Said.{entry_one}
 use Rattle.image.proofs.Accepted.{tells, hold_lower, key_legal, entry_is, entry_not, all_head, all_tail, named_step, named_none}
 use Rattle.layout.specs.Model.{Model, Idle, Begun, Decided, still, marked, with_waiting}
 use Rattle.layout.specs.Actions.{do_action, do_actions, decided, chosen, begins, AtOnce, ruling}
@@ -20,7 +20,7 @@ use Rattle.layout.specs.Packed.{hold_of, tap_of}
 use Rattle.layout.specs.Effects.{Effected}
 use Rattle.layout.specs.declared.notes.Way.{Way}
 use Rattle.layout.specs.declared.notes.Way.TheVariants.{Tap, Hold}
-use Rattle.layout.specs.declared.queue.Found.{Found}
+use Rattle.std.specs.Prelude.{Option}
 use Rattle.layout.proofs.Effects.{left_start, left_step, left_end, effected_as, effected_then, effected_begun, effected_nothing}
 use Rattle.layout.proofs.action.+decide_do_action.Goals as goal
 use Rattle.layout.proofs.action.+decide_do_action.Goals.{decide-After-settle-quiet}
@@ -43,7 +43,7 @@ neither Tap = refl
 neither Hold = refl
 
 -- a hold-tap that a queued release decides at once
-begins_now : (way : Way) (h p : Action) (n : ℕ) (c : Coord) (f : Found) (l w : Model)
+begins_now : (way : Way) (h p : Action) (n : ℕ) (c : Coord) (f : Option ℕ) (l w : Model)
     → marked (Begun c) (decided way h p n c f l)
     ≡ begins (AtOnce way) c w (do_action p n c 0 f (with_waiting Idle l)) (do_action h n c 0 f (with_waiting Idle l))
 unfolding decided
@@ -107,57 +107,48 @@ do_action-push_codes-requires t c =
     let m = tells c.args.image.now c.args.n c.requires.0 c.action_at.ensures c.in-MultipleKeyCodes.is in
     (c.requires.1, (m.codes, m.listed))
 
-pub do_action-loop-left-init : goal.do_action-loop-left-init
+pub do_action-loop-at-init : goal.do_action-loop-at-init
 unfolding children_in
-do_action-loop-left-init t c =
+do_action-loop-at-init t c =
     let a = c.args in
     let m = tells a.image.now a.n c.requires.0 c.action_at.ensures c.in-MultipleActions.is in
-    (refl, m.lower, left_start a.image.now a.setting.coord a.effect _ _ c.requires.1)
+    let all : c.in-MultipleActions.first + c.in-MultipleActions.count - c.in-MultipleActions.first ≡ c.in-MultipleActions.count = omega arith in
+    rw all (m.lower, left_start a.image.now a.setting.coord a.effect _ _ c.requires.1)
 
 pub do_action-returns-in_default : goal.do_action-returns-in_default
 unfolding list_end
 do_action-returns-in_default t c =
     let m = tells c.args.image.now c.args.n c.requires.0 c.action_at.ensures c.in-MultipleActions.is in
-    let past = entry_not _ _ (sym (entry_one _ _ c.entry_at.ensures) ∙ c.in_default.is) in
-    absurd (omega (arith, m.listed, past, c.loop-left.invariant.0, c.loop-left-test.true))
+    let past = entry_not _ _ (sym c.entry_at.ensures ∙ c.in_default.is) in
+    absurd (omega (arith, m.listed, past, c.loop-at-test.true))
 
 pub do_action-do_action-out-requires : goal.do_action-do_action-out-requires
 do_action-do_action-out-requires t c =
     let n = c.args.n in
     let img = c.args.image.now in
-    let b = c.loop-left in
-    let h = entry_is img b.at _ (sym (entry_one _ _ c.entry_at.ensures) ∙ c.in-Word.is) in
-    let low = ltb-true _ n (all_head (λ k. ltb k n) img b.at b.left c.loop-left-test.true b.invariant.1) in
-    (omega (arith, low, h.1, c.decreases), (c.requires.0, b.invariant.2.roomy))
+    let at = c.loop-at.at in
+    let inv = c.loop-at.invariant in
+    let left = c.in-MultipleActions.first + c.in-MultipleActions.count - at in
+    let some : 0 < left = omega (arith, c.loop-at-test.true) in
+    let h = entry_is img at _ (sym c.entry_at.ensures ∙ c.in-Some.is) in
+    let low = ltb-true _ n (all_head (λ k. ltb k n) img at left some inv.0) in
+    (omega (arith, low, h.1, c.decreases), (c.requires.0, inv.1.roomy))
 
-pub do_action-loop-left-preserved : goal.do_action-loop-left-preserved
+pub do_action-loop-at-preserved : goal.do_action-loop-at-preserved
 unfolding do_actions
-do_action-loop-left-preserved t c =
+do_action-loop-at-preserved t c =
     let img = c.args.image.now in
-    let b = c.loop-left in
-    let some = c.loop-left-test.true in
-    let h = entry_is img b.at _ (sym (entry_one _ _ c.entry_at.ensures) ∙ c.in-Word.is) in
-    let rest = rw (named_step (tree img) img b.at b.left some) at b.invariant.2 in (
-      omega (arith, b.invariant.0, some),
-      all_tail (λ k. ltb k c.args.n) img b.at b.left some b.invariant.1,
+    let at = c.loop-at.at in
+    let inv = c.loop-at.invariant in
+    let left = c.in-MultipleActions.first + c.in-MultipleActions.count - at in
+    let some : 0 < left = omega (arith, c.loop-at-test.true) in
+    let next : left - 1 ≡ c.in-MultipleActions.first + c.in-MultipleActions.count - (at + 1) = omega arith in
+    let h = entry_is img at _ (sym c.entry_at.ensures ∙ c.in-Some.is) in
+    let rest = rw (named_step (tree img) img at left some) at inv.1 in
+    rw (← next) (
+      all_tail (λ k. ltb k c.args.n) img at left some inv.0,
       left_step img c.args.setting.coord rest c.do_action-out.ensures (λ l. rw h.1),
     )
-
-pub do_action-returns-in-NoOp : goal.do_action-returns-in-NoOp
-unfolding do_action meaning
-do_action-returns-in-NoOp t c =
-    let img = c.args.image.now in
-    let k = c.args.setting.coord in
-    effected_as img k (effected_nothing img k _ _ c.requires.1)
-    (λ x q. rw (tells img c.args.n c.requires.0 c.action_at.ensures c.in-NoOp.is).is)
-
-pub do_action-returns-in-Trans : goal.do_action-returns-in-Trans
-unfolding do_action meaning
-do_action-returns-in-Trans t c =
-    let img = c.args.image.now in
-    let k = c.args.setting.coord in
-    effected_as img k (effected_nothing img k _ _ c.requires.1)
-    (λ x q. rw (tells img c.args.n c.requires.0 c.action_at.ensures c.in-Trans.is).is)
 
 pub do_action-returns-in-KeyCode : goal.do_action-returns-in-KeyCode
 unfolding do_action meaning
@@ -175,13 +166,13 @@ do_action-returns-in-MultipleKeyCodes t c =
     effected_as img k (c.push_codes.ensures k)
     (λ x q. rw (tells img c.args.n c.requires.0 c.action_at.ensures c.in-MultipleKeyCodes.is).is)
 
-pub do_action-returns-after-loop-left : goal.do_action-returns-after-loop-left
+pub do_action-returns-after-loop-at : goal.do_action-returns-after-loop-at
 unfolding do_action do_actions meaning
-do_action-returns-after-loop-left t c =
+do_action-returns-after-loop-at t c =
     let img = c.args.image.now in
     let k = c.args.setting.coord in
-    let b = c.loop-left in
-    let rest = rw (named_none (tree img) img b.at b.left (omega arith)) at b.invariant.2 in
+    let none : c.in-MultipleActions.first + c.in-MultipleActions.count - c.loop-at.at ≤ 0 = omega (arith, c.loop-at-test.false) in
+    let rest = rw (named_none (tree img) img c.loop-at.at (c.in-MultipleActions.first + c.in-MultipleActions.count - c.loop-at.at) none) at c.loop-at.invariant.1 in
     effected_as img k (left_end img k rest (λ l. refl))
     (λ x q. rw (tells img c.args.n c.requires.0 c.action_at.ensures c.in-MultipleActions.is).is)
 
@@ -208,13 +199,24 @@ do_action-returns-in-None t c =
     let k = c.args.setting.coord in
     let m = tells img c.args.n c.requires.0 c.action_at.ensures c.in-HoldTap.is in
     effected_as img k (effected_begun img k k (c.wait_on.ensures img k _ c.requires.1))
-    (λ x q. rw (c.less.ensures, c.in-None.is, m.is))
+    (λ x q. rw (c.saturating_sub-left.ensures, c.in-None.is, m.is))
 
-pub do_action-returns-in-At : goal.do_action-returns-in-At
+pub do_action-returns-in-Some-found : goal.do_action-returns-in-Some-found
 unfolding do_action meaning ruling
-do_action-returns-in-At t c =
+do_action-returns-in-Some-found t c =
     let img = c.args.image.now in
     let k = c.args.setting.coord in
     let m = tells img c.args.n c.requires.0 c.action_at.ensures c.in-HoldTap.is in
     effected_as img k (effected_begun img k k c.decide.ensures)
-    (λ x q. rw (c.queued_way.ensures, c.in-At.is, m.is) (begins_now _ _ _ _ _ _ _ _))
+    (λ x q. rw (c.queued_way-way.ensures, c.in-Some-found.is, m.is) (begins_now _ _ _ _ _ _ _ _))
+
+pub do_action-returns-in-NoOp : goal.do_action-returns-in-NoOp
+unfolding do_action meaning
+do_action-returns-in-NoOp t c =
+    let img = c.args.image.now in
+    let k = c.args.setting.coord in
+    let nothing = effected_nothing img k c.args.effect _ c.requires.1 in
+    elim c.in-NoOp.is [
+      | inl is ↦ effected_as img k nothing (λ x q. rw (tells img c.args.n c.requires.0 c.action_at.ensures is).is)
+      | inr is ↦ effected_as img k nothing (λ x q. rw (tells img c.args.n c.requires.0 c.action_at.ensures is).is)
+    ]

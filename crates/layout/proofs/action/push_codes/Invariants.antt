@@ -1,5 +1,5 @@
 -- `layout::action::push_codes` meets its contract. Assumes nothing.
-use Prim.Native.Nat.{◌+◌}
+use Prim.Native.Nat.{◌-◌}
 use mathlib.Core.Bool.{true}
 use mathlib.Core.Path.{◌≡◌}
 use Rattle.codes.specs.Codes.{legal}
@@ -10,12 +10,8 @@ use Rattle.layout.specs.Actions.{push_codes}
 use Rattle.layout.proofs.Effects.{Left}
 use Rattle.layout.proofs.action.push_codes.Given as goal
 
-abbrev pub invariant-loop-left : goal.invariant-loop-left
-invariant-loop-left l =
-    (l.at + l.left ≡ l.first + l.count)
-    × (every legal (entries l.image l.at l.left) ≡ true)
-    × ((c : Coord) → Left l.image c l.initial.out l.out l.initial.added l.added
-    (push_codes (entries l.image l.first l.count) c) (push_codes (entries l.image l.at l.left) c))
-
-abbrev pub decreases-loop-left : goal.decreases-loop-left
-decreases-loop-left l = l.left
+abbrev pub invariant-loop-at : goal.invariant-loop-at
+invariant-loop-at l =
+    let left = entries l.image l.at (l.at-end - l.at) in
+    (every legal left ≡ true)
+    × ((c : Coord) → Left l.image c l.initial.out l.out l.initial.added l.added (push_codes (entries l.image l.first l.count) c) (push_codes left c))

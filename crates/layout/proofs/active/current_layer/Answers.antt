@@ -1,56 +1,38 @@
 -- `layout::active::current_layer` meets its contract. Assumes nothing.
-use mathlib.Core.Bool.{true, false, or-true}
-use mathlib.Core.List.{map}
-use mathlib.Core.Path.{◌≡◌, refl, ◌∙◌}
+use mathlib.Core.Path.{◌≡◌, refl, sym, ap, ◌∙◌}
 use native.Mathlib.Omega.{arith}
-use Rattle.layout.specs.Steps.{held, sum as sum_of}
-use Rattle.layout.specs.declared.active.Slot.{Slot}
-use Rattle.layout.specs.Packed.{no_slot}
-use lib.ListN.{take}
-use Rattle.layout.proofs.Pads.{drop_one, drop_done}
-use Rattle.layout.proofs.Codes.{any, current_is}
-use Rattle.layout.proofs.Parts.{tidy_length}
+use lib.ListN.{length, take, length-take}
+use Rattle.layout.specs.Steps.{held, current}
+use Rattle.layout.specs.Packed.{no_state}
+use Rattle.layout.proofs.Pads.{take_all}
+use Rattle.layout.proofs.Codes.{summed, layer_more, no_layer, current_is}
 use Rattle.layout.proofs.active.current_layer.Goals as goal
-use Rattle.layout.proofs.active.current_layer.Goals.{in-NormalKey, in-LayerModifier}
+use Rattle.layout.proofs.active.current_layer.Goals.{in-LayerModifier, in_default}
 
-pub loop-i-init : goal.loop-i-init
-loop-i-init c = (omega arith, omega arith, refl, omega arith)
+pub loop-state-init : goal.loop-state-init
+unfolding held
+loop-state-init c = (refl, omega arith)
 
-pub loop-i-preserved : goal.loop-i-preserved
-unfolding held sum_of
-loop-i-preserved c =
-    let long = tidy_length c.args.active c.requires in
-    let inv = c.loop-i.invariant in
-    let one = drop_one c.args.active.states c.args.active.len c.loop-i.i no_slot (omega arith) (omega (arith, c.requires.few)) in
+pub overflow_add-sum : goal.overflow_add-sum
+overflow_add-sum c = let few = length-take c.args.active.len c.args.active.states in omega (arith, c.requires.few)
+
+pub loop-state-preserved : goal.loop-state-preserved
+loop-state-preserved c =
+    let inv = c.loop-state.invariant in
+    let l = take c.args.active.len c.args.active.states in
     elim c.match-state.branch [
-      | in-NormalKey w ↦ (
-        omega arith,
-        inv.1 ∙ rw (one, w.in-NormalKey.is, w.sum-is) (omega arith),
-        inv.2 ∙ rw (one, w.in-NormalKey.is, w.some-is),
-        rw w.sum-is (omega arith),
-      )
       | in-LayerModifier w ↦ (
-        omega arith,
-        inv.1 ∙ rw (one, w.in-LayerModifier.is, w.sum-is) (omega arith),
-        inv.2 ∙ rw (one, w.in-LayerModifier.is, w.some-is) (or-true c.loop-i.some),
-        rw w.sum-is (omega arith),
+        rw (w.sum-is, w.unwrap_or.ensures, inv.0) (sym (layer_more l c.loop-state.state-index no_state c.loop-state-test.true _ _ w.in-LayerModifier.is)),
+        rw w.sum-is (omega (arith, w.unwrap_or.ensures, inv.1)),
+      )
+      | in_default w ↦ (
+        rw (w.sum-is, inv.0) (sym (no_layer l c.loop-state.state-index no_state c.loop-state-test.true w.in_default.not-LayerModifier)),
+        rw w.sum-is (omega (arith, inv.1)),
       )
     ]
 
-pub returns-then-some : goal.returns-then-some
-unfolding held sum_of
-returns-then-some c =
-    let inv = c.loop-i.invariant in
-    let all : c.loop-i.i ≡ c.args.active.len = omega arith in
-    let total = (rw (all, drop_done) at inv).1 in
-    let yes : any (held (map (λ (x : Slot). x.state) (take c.args.active.len c.args.active.states))) ≡ true = inv.2 ∙ rw c.if-some.true in
-    rw (current_is, yes) (omega arith)
-
 pub returns : goal.returns
-unfolding held
 returns c =
-    let inv = c.loop-i.invariant in
-    let all : c.loop-i.i ≡ c.args.active.len = omega arith in
-    let no : any (held (map (λ (x : Slot). x.state) (take c.args.active.len c.args.active.states))) ≡ false = inv.2 ∙ rw
-    (c.if-some.false, all, drop_done) in
-    rw (current_is, no)
+    let l = take c.args.active.len c.args.active.states in
+    let all : take c.loop-state.state-index l ≡ l = take_all l c.loop-state.state-index c.loop-state-test.false in
+    rw (c.unwrap_or-2.ensures, c.loop-state.invariant.0, all) (current_is c.args.active.default_layer (held l))

@@ -1,22 +1,11 @@
 -- `layout::active::current_layer` meets its contract. Assumes nothing.
-use Prim.Native.Nat.{◌+◌, ◌-◌, ◌*◌, ◌≤◌}
-use mathlib.Core.Bool.{◌||◌}
-use mathlib.Core.List.{map}
+use Prim.Native.Nat.{◌*◌, ◌≤◌}
 use mathlib.Core.Path.{◌≡◌}
-use Rattle.layout.specs.Steps.{held, sum as sum_of}
-use Rattle.layout.specs.declared.active.Slot.{Slot}
-use lib.ListN.{take, drop}
-use Rattle.layout.proofs.Codes.{any}
+use lib.ListN.{take}
+use Rattle.std.specs.Option.{unwrap_or}
+use Rattle.layout.specs.Steps.{held}
+use Rattle.layout.proofs.Codes.{summed}
 use Rattle.layout.proofs.active.current_layer.Given as goal
 
-abbrev pub invariant-loop-i : goal.invariant-loop-i
-invariant-loop-i l =
-    (l.i ≤ l.n)
-    × (sum_of (held (map (λ (s : Slot). s.state) (take l.n l.active.states)))
-    ≡ l.sum + sum_of (held (map (λ (s : Slot). s.state) (drop l.i (take l.n l.active.states)))))
-    × (any (held (map (λ (s : Slot). s.state) (take l.n l.active.states)))
-    ≡ l.some || any (held (map (λ (s : Slot). s.state) (drop l.i (take l.n l.active.states)))))
-    × (l.sum ≤ 65535 * l.i)
-
-abbrev pub decreases-loop-i : goal.decreases-loop-i
-decreases-loop-i l = l.n - l.i
+abbrev pub invariant-loop-state : goal.invariant-loop-state
+invariant-loop-state l = (l.sum ≡ summed (held (take l.state-index l.state-items))) × (unwrap_or l.sum 0 ≤ 65535 * l.state-index)

@@ -1,47 +1,52 @@
 -- `layout::active::release` meets its contract. Assumes nothing.
-use mathlib.Core.Bool.{Bool, not}
 use mathlib.Core.Path.{◌≡◌, refl, sym, ap, ◌∙◌}
 use native.Mathlib.Omega.{arith}
-use Rattle.layout.proofs.Codes.{keep_map}
-use Rattle.layout.specs.Packed.{no_slot}
-use Rattle.layout.specs.Steps.{stays, release}
-use Rattle.layout.specs.declared.active.Slot.{Slot}
+use lib.ListN.{length, take, length-take}
 use Rattle.lists.specs.Lists.{keep}
-use lib.ListN.{take}
-use Rattle.layout.proofs.Pads.{filter_yes, filter_no, keep_length}
-use Rattle.layout.proofs.Parts.{tidy_length, held_length, new_states, moves_as}
+use Rattle.layout.specs.Steps.{stays, release}
+use Rattle.layout.specs.Packed.{no_state}
+use Rattle.layout.proofs.Pads.{filter_yes, filter_no, keep_length, take_all}
+use Rattle.layout.proofs.Parts.{new_states, held_length, moves_as}
 use Rattle.layout.proofs.active.release.Goals as goal
-use Rattle.layout.proofs.active.release.Goals.{then-not-is_same, else-not-is_same}
+use Rattle.layout.proofs.active.release.Goals.{then-ne, else-ne}
 
-pub loop-i-init : goal.loop-i-init
-loop-i-init c = (omega arith, omega arith, refl, refl)
+pub loop-state-init : goal.loop-state-init
+loop-state-init c = (omega arith, refl, refl)
 
-pub loop-i-preserved : goal.loop-i-preserved
-loop-i-preserved c =
-    let inv = c.loop-i.invariant in
-    let states = c.args.active.states in
-    let few = c.requires.few in
-    let long = tidy_length c.args.active c.requires in
-    let test : Slot → Bool = λ x. stays c.args.coord x.state in
-    let held = ap not (rw c.coord_in.ensures at c.is_same.ensures) in
-    elim c.if-not-is_same.branch [
-      | then-not-is_same w ↦
-          let h = filter_yes 64 no_slot test states c.loop-i.i _ c.loop-i.k _ (omega (arith, few)) (omega (arith, few))
-          (sym held ∙ w.if-not-is_same.true-raw) inv.2 inv.3 w.kept-is w.k-is in
-          (omega arith, omega arith, h.0, h.1)
-      | else-not-is_same w ↦
-          let h = filter_no 64 no_slot test states c.loop-i.i _ c.loop-i.k _ (omega (arith, few))
-          (sym held ∙ w.if-not-is_same.false-raw) inv.2 inv.3 w.kept-is w.k-is in
-          (omega arith, omega arith, h.0, h.1)
+pub offset_bounds-states-len : goal.offset_bounds-states-len
+offset_bounds-states-len c =
+    let few = length-take c.args.active.len c.args.active.states in
+    omega (arith, c.loop-state.invariant.0, c.requires.few)
+
+pub bounds-states-len : goal.bounds-states-len
+bounds-states-len c =
+    let few = length-take c.args.active.len c.args.active.states in
+    omega (arith, c.loop-state.invariant.0, c.requires.few)
+
+pub loop-state-preserved : goal.loop-state-preserved
+loop-state-preserved c =
+    let inv = c.loop-state.invariant in
+    let l = take c.args.active.len c.args.active.states in
+    let few = length-take c.args.active.len c.args.active.states in
+    let test = stays c.args.coord in
+    let held = rw c.coord.ensures at c.ne.ensures in
+    elim c.if-ne.branch [
+      | then-ne w ↦
+          let h = filter_yes 64 no_state test l c.loop-state.state-index _ c.loop-state.len _ c.loop-state-test.true
+          (omega (arith, inv.0, c.requires.few)) (sym held ∙ w.if-ne.true) inv.1 inv.2 w.states-is w.len-is in
+          (omega (arith, inv.0, w.len-is), h.0, h.1)
+      | else-ne w ↦
+          let h = filter_no 64 no_state test l c.loop-state.state-index _ c.loop-state.len _ c.loop-state-test.true
+          (sym held ∙ w.if-ne.false) inv.1 inv.2 w.states-is w.len-is in
+          (omega (arith, inv.0, w.len-is), h.0, h.1)
     ]
 
 pub returns : goal.returns
 unfolding release
 returns c =
-    let all : c.loop-i.i ≡ c.args.active.len = omega arith in
     let l = take c.args.active.len c.args.active.states in
-    let test : Slot → Bool = λ x. stays c.args.coord x.state in
+    let test = stays c.args.coord in
+    let all : take c.loop-state.state-index l ≡ l = take_all l c.loop-state.state-index c.loop-state-test.false in
+    let inv = rw all at c.loop-state.invariant in
     λ img. moves_as img (new_states img c.args.active (keep test l) _ _
-    (omega (arith, keep_length test l, held_length c.args.active c.requires, c.requires.few)) (rw all at c.loop-i.invariant.2)
-    (rw all at c.loop-i.invariant.3))
-    (λ q. rw (keep_map (stays c.args.coord) l))
+    (omega (arith, keep_length test l, held_length c.args.active c.requires, c.requires.few)) inv.1 inv.2) (λ q. refl)

@@ -1,51 +1,54 @@
 -- `layout::answer::answer_of` meets its contract. Assumes nothing.
-use mathlib.Core.List.{map, append-nil}
-use mathlib.Core.Path.{◌≡◌, refl}
+use Prim.Native.Nat.{ℕ, ◌+◌, ◌<◌}
+use mathlib.Core.List.{List, [], ◌∷◌, ◌++◌}
+use mathlib.Core.Path.{◌≡◌, refl, sym, ap, ◌∙◌}
 use native.Mathlib.Omega.{arith}
+use lib.ListN.{length, take, set, length-take, length-append}
+use Rattle.lists.specs.Lists.{laid}
 use Rattle.layout.specs.Steps.{codes}
-use Rattle.layout.specs.declared.active.Slot.{Slot}
-use Rattle.layout.specs.Packed.{no_slot}
-use lib.ListN.{take, length-append, length-set}
-use Rattle.layout.proofs.Pads.{buf_more}
-use Rattle.layout.proofs.Codes.{codes_more}
-use Rattle.layout.proofs.Parts.{tidy_length}
+use Rattle.layout.specs.Packed.{no_state}
+use Rattle.layout.proofs.Pads.{buf_more, take_all}
+use Rattle.layout.proofs.Codes.{key_more, no_key}
 use Rattle.layout.proofs.answer.answer_of.Goals as goal
-use Rattle.layout.proofs.answer.answer_of.Goals.{in-NormalKey, in-LayerModifier}
+use Rattle.layout.proofs.answer.answer_of.Goals.{in-NormalKey, in_default}
 
-pub loop-i-init : goal.loop-i-init
-unfolding codes
-loop-i-init c = (omega arith, omega arith, refl, refl, refl)
+-- one byte more behind those that are laid
+put : (l b : List ℕ) (a k : ℕ) → k ≡ length l → k < length b → set (laid l b) k a ≡ laid (l ++ (a ∷ [])) b
+put l b a k e h =
+    let one : length (l ++ (a ∷ [])) ≡ k + 1 = rw (length-append, e) in
+    rw (← e, one) (buf_more l b a k e h)
 
-pub loop-i-preserved : goal.loop-i-preserved
+pub loop-state-init : goal.loop-state-init
 unfolding codes
-loop-i-preserved c =
-    let long = tidy_length c.args.end.active c.requires.0 in
-    let inv = c.loop-i.invariant in
-    let more = codes_more c.args.end.active.states c.loop-i.i no_slot (omega (arith, c.requires.0.few)) in
-    let before = codes (map (λ (x : Slot). x.state) (take c.loop-i.i c.args.end.active.states)) in
+loop-state-init c = (omega arith, refl, refl)
+
+pub bounds-out-codes : goal.bounds-out-codes
+bounds-out-codes c =
+    let few = length-take c.args.end.active.len c.args.end.active.states in
+    omega (arith, c.loop-state.invariant.0, c.loop-state.auto.out, c.requires.0.few, c.requires.1)
+
+pub loop-state-preserved : goal.loop-state-preserved
+loop-state-preserved c =
+    let inv = c.loop-state.invariant in
+    let l = take c.args.end.active.len c.args.end.active.states in
+    let few = length-take c.args.end.active.len c.args.end.active.states in
+    let before = codes (take c.loop-state.state-index l) in
     elim c.match-state.branch [
-      | in-NormalKey w ↦ (
-        omega arith,
-        rw w.k-is (omega arith),
-        rw (w.k-is, more, w.in-NormalKey.is, length-append) (omega arith),
-        rw (w.out-is, w.k-is, more, w.in-NormalKey.is, inv.3)
-            (buf_more before c.args.out.now _ c.loop-i.k inv.2 (omega (arith, c.requires.1, c.requires.0.few))),
-        rw (w.out-is, length-set) inv.4,
-      )
-      | in-LayerModifier w ↦ (
-        omega arith,
-        rw w.k-is (omega arith),
-        rw (w.k-is, more, w.in-LayerModifier.is, append-nil) inv.2,
-        rw (w.out-is, w.k-is, more, w.in-LayerModifier.is, append-nil) inv.3,
-        rw w.out-is inv.4,
-      )
+      | in-NormalKey w ↦
+          let more = key_more l c.loop-state.state-index no_state c.loop-state-test.true _ _ w.in-NormalKey.is in
+          let k : c.loop-state.codes < length c.args.out.now = omega (arith, inv.0, c.requires.0.few, c.requires.1) in (
+            omega (arith, inv.0, w.codes-is),
+            rw (w.codes-is, more, length-append) (omega (arith, inv.1)),
+            rw (w.out-is, more, inv.2) (put before c.args.out.now _ c.loop-state.codes inv.1 k),
+          )
+      | in_default w ↦
+          let same = no_key l c.loop-state.state-index no_state c.loop-state-test.true w.in_default.not-NormalKey in
+          (omega (arith, inv.0, w.codes-is), rw (w.codes-is, same) inv.1, rw (w.out-is, same) inv.2)
     ]
-
-pub shape_of-out : goal.shape_of-out
-shape_of-out c = c.loop-i.invariant.4
 
 pub returns : goal.returns
 returns c =
-    let inv = c.loop-i.invariant in
-    let all : c.loop-i.i ≡ c.args.end.active.len = omega arith in
-    (rw (rw all at inv).2, rw (← all, ← inv.2) inv.3)
+    let l = take c.args.end.active.len c.args.end.active.states in
+    let all : take c.loop-state.state-index l ≡ l = take_all l c.loop-state.state-index c.loop-state-test.false in
+    let inv = rw all at c.loop-state.invariant in
+    (rw inv.1, inv.2)

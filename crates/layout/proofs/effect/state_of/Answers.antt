@@ -7,6 +7,6 @@ pub returns-then-number-lt65536 : goal.returns-then-number-lt65536
 unfolding state_of
 returns-then-number-lt65536 c = rw (lt-ltb _ _ c.if-number-lt65536.true)
 
-pub returns : goal.returns
+pub returns-else-number-lt65536 : goal.returns-else-number-lt65536
 unfolding state_of
-returns c = rw (le-ltb _ _ c.if-number-lt65536.false)
+returns-else-number-lt65536 c = rw (le-ltb _ _ c.if-number-lt65536.false)

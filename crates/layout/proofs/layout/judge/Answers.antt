@@ -1,78 +1,69 @@
 -- `layout::layout::judge` meets its contract. Assumes nothing.
 use Prim.Native.Nat.{ℕ}
+use mathlib.Core.List.{List}
 use mathlib.Core.Path.{◌≡◌, sym, ap, ◌∙◌}
-use native.Mathlib.Omega.{arith}
-use borrow.Author.Tests.{not-true, not-false, le-leb, lt-leb}
-use Rattle.refusal.specs.Verdict.{rule, or_else}
-use Rattle.refusal.specs.declared.Refusal.{Refusal}
-use Rattle.refusal.specs.declared.Verdict.{Verdict}
-use Rattle.refusal.specs.declared.Verdict.TheVariants.{Fine, Refused}
-use Rattle.image.specs.Words.{layers_of}
+use lib.Dec.{leb}
+use Rattle.std.proofs.Common.{rules}
+use Rattle.std.specs.Prelude.{Result, Ok, Err}
+use Rattle.refusal.specs.Verdict.{Verdict, or_else, rule}
+use Rattle.refusal.specs.Said.{said}
+use Rattle.refusal.specs.declared.Fault.{Fault}
+use Rattle.refusal.specs.declared.Refusal.TheVariants.{State, Room}
+use Rattle.refusal.proofs.Said.{said_one}
+use Rattle.refusal.proofs.Verdicts.{rule_broken, rule_kept}
+use Rattle.image.specs.Check.{Checked, check_of, no_shape}
 use Rattle.image.specs.declared.words.Shape.{Shape}
-use Rattle.image.specs.declared.rules.Checked.{Checked}
-use Rattle.image.specs.declared.rules.Checked.TheVariants.{Accepted}
-use Rattle.image.specs.Check.{check_of}
 use Rattle.image.proofs.Accepted.{accepted}
-use Rattle.image.proofs.Said.{said_one}
-use Rattle.layout.specs.Calls.{verdict_in, judged_of}
+use Rattle.layout.specs.Calls.{judged_of}
+use Rattle.layout.proofs.Calls.{ready}
 use Rattle.layout.proofs.layout.judge.Goals as goal
-use Rattle.layout.proofs.layout.judge.Goals.{After-check-checked}
 
 -- the check's answer, by what is said of it
-checked_is : (k : After-check-checked) (x : Checked) → k.check-checked.result ≡ x → check_of k.args.image.now ≡ x
-checked_is k x e = sym (said_one k.check-checked.result _ k.check-checked.ensures) ∙ e
+checked : (x : Checked) (img : List ℕ) {y : Checked} → said no_shape x ≡ said no_shape (check_of img) → x ≡ y → check_of img ≡ y
+checked x img s e = sym (said_one no_shape x (check_of img) s) ∙ e
 
-refused_or_fine : {A : Type 0} (v : Verdict) (r : Refusal) (p : ℕ) → v ≡ Refused r p → v ≡ Fine → A
-refused_or_fine v r p e f =
-    let both : Refused r p ≡ Fine = sym e ∙ f in
-    let z : ◌≡◌ {A = ℕ} 0 1 = cc in
-    absurd (omega arith)
+-- a fault, whatever values stand beside it
+of_fault : {f g : Fault} → ◌≡◌ {A = Verdict} (Err f) (Err g) → ◌≡◌ {A = Result ℕ Fault} (Err f) (Err g)
+of_fault e = cc
 
-pub returns-in_default : goal.returns-in_default
+pub returns-in_err-layers-clause-is : goal.returns-in_err-layers-clause-is
 unfolding judged_of or_else
-returns-in_default c =
-    let told = c.in_default.is in
-    let is = c.verdict_in.ensures ∙ ap verdict_in told in
-    record { verdict = is ∙ rw (checked_is (goal.at.returns-in_default c).After-check-checked _ told); layers = refused_or_fine _ _ _ is }
-
-layers : (k : After-check-checked) (s : Shape) → k.check-checked.result ≡ Accepted s → s.layers ≡ layers_of k.args.image.now
-layers k s e = ap (λ (x : Shape). x.layers) (accepted _ _ (checked_is k _ e)).0
+returns-in_err-layers-clause-is c =
+    let e = checked _ c.args.image.now c.check.ensures c.in_err-layers.was in
+    let r : c.from_residual.result ≡ Err c.in_err-layers.field-0.0 = search rules in
+    r ∙ rw e
 
 pub state_good-requires : goal.state_good-requires
 state_good-requires c =
-    let k = (goal.at.state_good-requires c).After-check-checked in
-    ((accepted _ _ (checked_is k _ c.in-Accepted.is)).1, layers k _ c.in-Accepted.is)
+    let e = checked _ c.args.image.now c.check.ensures c.in_ok-layers.was in
+    let a = accepted c.args.image.now c.in_ok-layers.field-0 e in
+    (a.1, ap (λ s. s.layers) a.0)
 
-pub returns-then-not-state_good : goal.returns-then-not-state_good
+pub returns-in_err-rule-clause-is : goal.returns-in_err-rule-clause-is
 unfolding judged_of or_else rule
-returns-then-not-state_good c =
-    let k = (goal.at.returns-then-not-state_good c).After-check-checked in
-    let good = sym c.state_good.ensures in
-    record {
-      verdict = rw (checked_is k _ c.in-Accepted.is, good ∙ not-true _ c.if-not-state_good.true-raw);
-      layers = λ fine. layers k _ c.in-Accepted.is;
-    }
+returns-in_err-rule-clause-is c =
+    let e = checked _ c.args.image.now c.check.ensures c.in_ok-layers.was in
+    let b = rule_broken c.state_good.result State 0 (sym c.rule.ensures ∙ c.in_err-rule.was) in
+    let r : c.from_residual-in_err-rule.result ≡ Err c.in_err-rule.field-0.0 = search rules in
+    r ∙ rw (e, sym c.state_good.ensures ∙ b.0) (of_fault b.1)
 
-pub returns-then-room-lt-STATES : goal.returns-then-room-lt-STATES
+pub returns-in_err-rule-2-clause-is : goal.returns-in_err-rule-2-clause-is
 unfolding judged_of or_else rule
-returns-then-room-lt-STATES c =
-    let k = (goal.at.returns-then-room-lt-STATES c).After-check-checked in
-    let good = sym c.state_good.ensures in
-    record {
-      verdict = rw (checked_is k _ c.in-Accepted.is, good ∙ not-false _ c.if-not-state_good.false-raw, lt-leb _ _ c.if-room-lt-STATES.true);
-      layers = λ fine. layers k _ c.in-Accepted.is;
-    }
+returns-in_err-rule-2-clause-is c =
+    let e = checked _ c.args.image.now c.check.ensures c.in_ok-layers.was in
+    let good = rule_kept c.state_good.result State 0 (sym c.rule.ensures ∙ c.in_ok-rule.was) in
+    let b = rule_broken (leb 64 c.args.room) Room 0 (sym c.rule-2.ensures ∙ c.in_err-rule-2.was) in
+    let r : c.from_residual-in_err-rule-2.result ≡ Err c.in_err-rule-2.field-0.0 = search rules in
+    r ∙ rw (e, sym c.state_good.ensures ∙ good, b.0) (of_fault b.1)
 
-pub returns : goal.returns
+pub returns-clause-is : goal.returns-clause-is
 unfolding judged_of or_else rule
-returns c =
-    let k = (goal.at.returns c).After-check-checked in
-    let good = sym c.state_good.ensures in
-    record {
-      verdict = rw (
-        checked_is k _ c.in-Accepted.is,
-        good ∙ not-false _ c.if-not-state_good.false-raw,
-        le-leb _ _ c.if-room-lt-STATES.false,
-      );
-      layers = λ fine. layers k _ c.in-Accepted.is;
-    }
+returns-clause-is c =
+    let e = checked _ c.args.image.now c.check.ensures c.in_ok-layers.was in
+    let good = rule_kept c.state_good.result State 0 (sym c.rule.ensures ∙ c.in_ok-rule.was) in
+    let room = rule_kept (leb 64 c.args.room) Room 0 (sym c.rule-2.ensures ∙ c.in_ok-rule-2.was) in
+    let a = accepted c.args.image.now c.in_ok-layers.field-0 e in
+    rw (e, sym c.state_good.ensures ∙ good, room) (ap (λ (s : Shape). Ok s.layers) a.0)
+
+pub returns-clause-ready : goal.returns-clause-ready
+returns-clause-ready c = ready c.args.image.now c.args.layout c.args.room _ (search rules) (search rules) (sym (returns-clause-is c))

@@ -1,42 +1,24 @@
 -- `layout::queue::age` meets its contract. Assumes nothing.
-use mathlib.Core.List.{map}
-use mathlib.Core.Path.{◌≡◌, refl, sym, ap, ◌∙◌}
-use native.Mathlib.Omega.{arith}
-use Rattle.layout.specs.Packed.{no_stacked, queued_of, stacked_of}
-use Rattle.layout.specs.Steps.{older_one}
-use Rattle.layout.specs.declared.queue.Stacked.{Stacked}
-use lib.ListN.{length, take, length-map}
-use lib.Seq.{length-take-le}
-use Rattle.layout.proofs.Pads.{map_on, clean_rest}
-use Rattle.layout.proofs.Parts.{lined_length, new_queue, older_in, older_list}
+use mathlib.Core.List.{append-nil, map}
+use mathlib.Core.Path.{◌≡◌, refl, ap, ◌∙◌}
+use lib.ListN.{take, drop, drop_of_length-le}
+use Rattle.layout.specs.Packed.{no_stacked}
+use Rattle.layout.proofs.Pads.{map_on, take_all}
+use Rattle.layout.proofs.Parts.{older_in, aged}
 use Rattle.layout.proofs.queue.age.Goals as goal
 
--- one older is that of its model
-older_is : (s t : Stacked) → queued_of t ≡ older_one (queued_of s) → t ≡ older_in s
-older_is s t e = ap stacked_of e
+pub loop-waits-init : goal.loop-waits-init
+loop-waits-init c = refl
 
-pub loop-k-init : goal.loop-k-init
-loop-k-init c = (omega arith, refl, refl)
-
-pub loop-k-preserved : goal.loop-k-preserved
-loop-k-preserved c =
-    let long = lined_length c.args.queue c.requires in (
-      omega arith,
-      c.loop-k.invariant.1,
-      rw (older_is _ _ c.one_older.ensures)
-          (map_on older_in c.args.queue.stacked c.loop-k.out.stacked c.loop-k.k no_stacked (omega (arith, c.requires.few))
-          c.loop-k.invariant.2),
-    )
+pub loop-waits-preserved : goal.loop-waits-preserved
+loop-waits-preserved c =
+    rw c.saturating_add-waits.ensures
+    (map_on older_in (take c.args.queue.queued c.args.queue.stacked) c.loop-waits.waits-items c.loop-waits.waits-index no_stacked c.loop-waits-test.true c.loop-waits.invariant)
 
 pub returns : goal.returns
 returns c =
-    let q = c.args.queue in
-    let few = c.requires.few in
-    let long = lined_length q c.requires in
-    let all : c.loop-k.k ≡ q.queued = omega arith in
-    let count : length (map older_in (take q.queued q.stacked)) ≡ q.queued = rw (length-map)
-    (length-take-le q.queued q.stacked (omega arith)) in
-    let rest = clean_rest 16 q.queued no_stacked q.stacked (omega arith) c.requires.clean in
-    let n = new_queue (map older_in (take q.queued q.stacked)) c.loop-k.out.stacked c.loop-k.out.queued (omega arith)
-    (c.loop-k.invariant.1 ∙ sym count) (rw all at c.loop-k.invariant.2 ∙ rw (rest, count)) in
-    (n.0, n.1 ∙ older_list (take q.queued q.stacked))
+    let l = take c.args.queue.queued c.args.queue.stacked in
+    let k = c.loop-waits.waits-index in
+    let done = c.loop-waits-test.false in
+    let rest = drop_of_length-le l {i = k} done in
+    aged c.args.queue c.loop-waits.waits-items c.requires (c.loop-waits.invariant ∙ rw (take_all l k done, rest) (append-nil (map older_in l)))

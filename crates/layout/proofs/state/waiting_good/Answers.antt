@@ -9,11 +9,11 @@ pub returns-in_default-action_at : goal.returns-in_default-action_at
 returns-in_default-action_at c =
     let img = c.args.image.now in
     let m = tells img _ {r = c.action_at.result} c.requires c.action_at.ensures refl in
-    rw (c.in-On.is, m.is) (sym (no_wait img _ (tree img) _ _ c.in_default-action_at.not-HoldTap))
+    rw (c.in-Some.is, m.is) (sym (no_wait img _ (tree img) _ _ c.in_default-action_at.not-HoldTap))
 
 pub returns : goal.returns
 unfolding meaning
 returns c =
     let img = c.args.image.now in
     let m = tells img _ c.requires c.action_at.ensures c.in-HoldTap.is in
-    rw (c.in-On.is, m.is)
+    rw (c.in-Some.is, m.is)

@@ -2,16 +2,14 @@
 use Prim.Native.Nat.{ℕ}
 use mathlib.Core.List.{List}
 use mathlib.Core.Path.{◌≡◌, refl, ap, ◌∙◌}
-use Rattle.layout.proofs.Presses.{press_outside, press_trans, press_own}
-use Rattle.layout.specs.Packed.{model_of}
-use Rattle.image.specs.Record.{cell_at}
+use Rattle.image.specs.Tree.{Action, meaning, tree}
 use Rattle.image.specs.Table.{tree_in}
-use Rattle.image.specs.Tree.{Action, tree, meaning}
 use Rattle.image.specs.declared.record.Action.{Action as Coded}
 use Rattle.image.specs.declared.record.Action.TheVariants as code
-use Rattle.image.proofs.Said.{cell_one}
 use Rattle.image.proofs.Accepted.{tells}
 use Rattle.layout.specs.Steps.{or_default}
+use Rattle.layout.specs.Packed.{model_of}
+use Rattle.layout.proofs.Presses.{press_outside, press_trans, press_own}
 use Rattle.layout.proofs.steps.press_as_action.Goals as goal
 
 -- a record that is no Trans is not looked up again
@@ -31,17 +29,15 @@ pub returns-in_default : goal.returns-in_default
 unfolding tree_in
 returns-in_default c =
     λ q. press_outside c.args.image.now c.args.coord (model_of c.args.image.now c.args.active q) _ _ c.current_layer.ensures
-    (cell_one _ _ c.cell_at.ensures) c.in_default.is
+    c.cell_at.ensures c.in_default.is
 
 pub returns-in-Trans : goal.returns-in-Trans
 unfolding tree_in meaning
 returns-in-Trans c =
     let img = c.args.image.now in
     let m = tells img _ c.requires.0 c.action_at.ensures c.in-Trans.is in
-    let base : c.cell_at-in-Trans.result ≡ cell_at img c.args.active.default_layer c.args.coord.i c.args.coord.j = cell_one _ _
-    c.cell_at-in-Trans.ensures in
-    λ q. ap (tree_in img) base ∙ press_trans img c.args.coord (model_of img c.args.active q) _ _ c.current_layer.ensures
-    (cell_one _ _ c.cell_at.ensures) _ c.in-Record.is m.is
+    λ q. ap (tree_in img) c.cell_at-in-Trans.ensures ∙ press_trans img c.args.coord (model_of img c.args.active q) _ _
+    c.current_layer.ensures c.cell_at.ensures _ c.in-Some.is m.is
 
 pub returns-in_default-action_at : goal.returns-in_default-action_at
 unfolding tree_in
@@ -49,5 +45,5 @@ returns-in_default-action_at c =
     let img = c.args.image.now in
     let m = tells img _ {r = c.action_at.result} c.requires.0 c.action_at.ensures refl in
     λ q. press_own img c.args.coord (model_of img c.args.active q) _ _ c.current_layer.ensures
-    (cell_one _ _ c.cell_at.ensures) _ c.in-Record.is
+    c.cell_at.ensures _ c.in-Some.is
     (rw m.is (not_trans img _ (tree img) _ _ c.in_default-action_at.not-Trans))

@@ -3,11 +3,10 @@
 use Prim.Native.Nat.{ℕ, ◌+◌, ◌*◌, ◌-◌, ◌<◌}
 use mathlib.Core.Bool.{cond}
 use mathlib.Core.List.{[], ◌∷◌, ◌++◌}
-use mathlib.Core.Path.{◌≡◌, refl, ap, ◌∙◌}
+use mathlib.Core.Path.{◌≡◌}
 use native.Mathlib.Omega.{arith}
 use lib.Dec.{eqb}
-use lib.ListN.{length, length-append}
-use lib.Seq.{length-sets}
+use lib.ListN.{length-append}
 use Rattle.image.specs.Words.{word_at, words_from}
 use Rattle.text.specs.Text.{decimal_of}
 use Rattle.table_text.specs.Inside.{marked, Lays}
@@ -21,7 +20,7 @@ loop-i-init c =
     let a = c.args in
     let p : a.from + 2 * 0 ≡ a.from = omega arith in
     let w : a.width - 0 ≡ a.width = omega arith in
-    (omega arith, omega arith, refl, rw (p, w) (rest_start (marked (words_from a.image.now a.from a.width)) a.at a.out.now))
+    (omega arith, rw (p, w) (rest_start (marked (words_from a.image.now a.from a.width)) a.at a.out.now))
 
 pub loop-i-preserved : goal.loop-i-preserved
 loop-i-preserved c =
@@ -33,10 +32,8 @@ loop-i-preserved c =
     let mark = cond {A = ℕ} (eqb (c.loop-i.i + 1) a.width) 10 32 in
     let said : Lays (decimal_of word ++ (mark ∷ [])) c.loop-i.to c.loop-i.out c.lay_number-to.result c.lay_number-to.new.out
     = rw (← c.word_or_zero-n.ensures, ← c.mark_behind.ensures) c.lay_number-to.ensures in (
-      omega (arith, in-turn),
-      omega (arith, simp length-append at said.ends, decimal_short word, inv.1),
-      ap length said.holds ∙ length-sets c.loop-i.out c.loop-i.to (decimal_of word ++ (mark ∷ [])) ∙ inv.2,
-      rest_on (rw (marks_on img a.from a.width c.loop-i.i in-turn) at inv.3) said,
+      omega (arith, simp length-append at said.ends, decimal_short word, inv.0),
+      rest_on (rw (marks_on img a.from a.width c.loop-i.i in-turn) at inv.1) said,
     )
 
 pub returns : goal.returns
@@ -44,7 +41,4 @@ returns c =
     let a = c.args in
     let none : a.width - c.loop-i.i ≡ 0 = omega (arith, c.loop-i-test.false) in
     rw (line_is a.image.now a.from a.width c.requires.0)
-    (rest_end (rw (marks_none a.image.now (a.from + 2 * c.loop-i.i) _ none) at c.loop-i.invariant.3))
-
-pub shape_of-out : goal.shape_of-out
-shape_of-out c = c.loop-i.invariant.2
+    (rest_end (rw (marks_none a.image.now (a.from + 2 * c.loop-i.i) _ none) at c.loop-i.invariant.1))

@@ -1,0 +1,22 @@
+-- `image::body::Body::weigh` meets its contract. The invariant: what was found and what is left come to what all the children do,
+-- where each of those left was counted as 1. The record's number falls in the recursion.
+-- Assumes nothing.
+use Rattle.std.proofs.Common.{◌≡◌, ◌+◌, ◌-◌, ◌*◌, ◌≤◌, true}
+use Rattle.image.proofs.Entries.{words_after}
+use Rattle.image.proofs.Weights.{children_after}
+use Rattle.image.specs.Inside.{children_at}
+use Rattle.image.specs.Tree.{weights, some_open}
+use Rattle.lists.specs.Lists.{every}
+use lib.Dec.{ltb}
+use mathlib.Core.Bool.{◌||◌}
+use Rattle.image.proofs.body.Body.+weigh.Given as goal
+
+abbrev pub decreases-weigh : goal.decreases-weigh
+decreases-weigh l = l.n
+
+abbrev pub invariant-loop-i : goal.invariant-loop-i
+invariant-loop-i l =
+    (l.weight ≤ l.count + 63 * l.i)
+    × (every (λ k. ltb k l.n) (words_after l.self.image.now l.at l.count l.i) ≡ true)
+    × (l.weight + weights (children_after l.self.image.now l.at l.count l.i) ≡ weights (children_at l.self.image.now l.at l.count) + (l.count - l.i))
+    × ((l.opens || some_open (children_after l.self.image.now l.at l.count l.i)) ≡ some_open (children_at l.self.image.now l.at l.count))

@@ -1,9 +1,0 @@
--- `table_text::lay::put` meets its contract. Assumes nothing.
-use mathlib.Core.Path.{sym}
-use lib.Seq.{set_out}
-use Rattle.table_text.proofs.lay.put.Goals as goal
-
-pub returns-else-at-out : goal.returns-else-at-out
-returns-else-at-out c =
-    let a = c.args in
-    sym (set_out a.out.now a.at a.byte c.if-at-out.false)
