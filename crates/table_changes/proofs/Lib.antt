@@ -1,8 +1,8 @@
 pub mod Same
 pub mod Verdicts
 pub mod Words
-pub mod Nodes
 pub mod Meets
+pub mod Plain
 pub mod Places
 pub mod Replies
 pub mod Unique

@@ -1,20 +1,20 @@
--- Two records that are met mean the same where kind, own word, count and words agree: proofs/Same.antt, `same_parts`, word by word.
--- Assumes nothing.
-use Prim.Native.Nat.{ℕ, suc}
+-- What the test of two trees says, by the records that they are read from. Assumes nothing.
+use Prim.Native.Nat.{ℕ, suc, ◌+◌, ◌*◌}
 use mathlib.Core.Path.{◌≡◌, refl, sym, ap, ◌∙◌}
-use mathlib.Core.Bool.{Bool, true, false, ◌&&◌, cond, and-false, and-true}
+use mathlib.Core.Bool.{true, false, ◌&&◌, and-false, and-true}
 use mathlib.Core.List.{List, [], ◌∷◌}
-use borrow.Author.Tests.{eq-eqb, ne_eqb}
-use lib.Dec.{eqb}
+use lib.Dec.{eqb, ltb}
 use lib.ListN.{length}
-use Rattle.lists.specs.Lists.{alike}
+use Rattle.lists.specs.Lists.{alike, every}
 use Rattle.lists.proofs.Laws.{alike_not}
-use Rattle.image.specs.Tree.{Action, Actions, end, named, tree}
-use Rattle.image.proofs.Entries.{length_words}
+use Rattle.image.specs.Tree.{Action, named, meaning, tree}
+use Rattle.image.specs.Words.{list_start, words_from}
+use Rattle.image.specs.Record.{children_in}
+use Rattle.image.specs.Sound.{Meant}
+use Rattle.image.specs.declared.record.Action.TheVariants as code
+use Rattle.image.proofs.Entries.{entries_words, length_words}
+use Rattle.image.proofs.Tests.{and_assoc}
 use Rattle.table_changes.specs.Same.{same, same_all}
-use Rattle.table_changes.specs.Inside.{Met, words_of}
-use Rattle.table_changes.specs.declared.meaning.Node.{Node}
-use Rattle.table_changes.proofs.Same.{same_parts}
 
 -- lists of other lengths name other actions
 named_other : (f g : ℕ → Action) (ks js : List ℕ) → (length ks ≡ length js → ⊥) → same_all (named f ks) (named g js) ≡ false
@@ -24,43 +24,33 @@ named_other f g [] (j ∷ js) n = refl
 named_other f g (k ∷ ks) [] n = refl
 named_other f g (k ∷ ks) (j ∷ js) n = rw (named_other f g ks js (λ e. n (ap suc e))) (and-false (same (f k) (g j)))
 
-module _ (first second : List ℕ) (m n : ℕ) (x y : Node) (p : Met first m x) (q : Met second n y) where
-  -- the test by the parts of both
-  abbrev codes_in : List ℕ → Node → List ℕ
-  codes_in img z = cond (eqb z.kind 3) (words_of img z) []
+-- the words of an entry on
+abbrev pub listed : List ℕ → ℕ → ℕ → List ℕ
+listed img e count = words_from img (list_start img + 2 * e) count
 
-  abbrev parts_in : List ℕ → Node → Actions
-  parts_in img z = cond (eqb z.kind 3) end (named (tree img) (words_of img z))
+module _ (first second : List ℕ) (m n : ℕ) where
+  module _ (e c f d : ℕ) where
+    pub codes_same : Meant first m (code.MultipleKeyCodes e c) → Meant second n (code.MultipleKeyCodes f d) → same (tree first m) (tree second n) ≡ alike (listed first e c) (listed second f d)
+    unfolding meaning same
+    codes_same p q = rw (p.is, q.is, entries_words first e c, entries_words second f d)
 
-  by_parts : same (tree first m) (tree second n) ≡ ((eqb x.kind y.kind && (eqb x.word y.word && alike (codes_in first x) (codes_in second y))) && same_all (parts_in first x) (parts_in second y))
-  by_parts = same_parts (tree first m) (tree second n) ∙ rw (p.says, q.says, p.names, q.names)
+    pub codes_other : Meant first m (code.MultipleKeyCodes e c) → Meant second n (code.MultipleKeyCodes f d) → (c ≡ d → ⊥) → same (tree first m) (tree second n) ≡ false
+    codes_other p q h = rw (codes_same p q) (alike_not (listed first e c) (listed second f d) (λ k. h (sym (length_words first (list_start first + 2 * e) c) ∙ ap length k ∙ length_words second (list_start second + 2 * f) d)))
 
-  pub other_kind : (x.kind ≡ y.kind → ⊥) → same (tree first m) (tree second n) ≡ false
-  other_kind h = by_parts ∙ rw (ne_eqb _ _ h)
+    pub actions_same : Meant first m (code.MultipleActions e c) → Meant second n (code.MultipleActions f d)
+        → same (tree first m) (tree second n) ≡ same_all (named (tree first) (listed first e c)) (named (tree second) (listed second f d))
+    unfolding meaning same
+    actions_same p q = rw (p.is, q.is, entries_words first e c, entries_words second f d)
 
-  module _ (k : x.kind ≡ y.kind) where
-    pub other_word : (x.word ≡ y.word → ⊥) → same (tree first m) (tree second n) ≡ false
-    other_word h = by_parts ∙ rw (eq-eqb _ _ k, ne_eqb _ _ h)
+    pub actions_other : Meant first m (code.MultipleActions e c) → Meant second n (code.MultipleActions f d) → (c ≡ d → ⊥) → same (tree first m) (tree second n) ≡ false
+    actions_other p q h = rw (actions_same p q) (named_other _ _ (listed first e c) (listed second f d) (λ k. h (sym (length_words first (list_start first + 2 * e) c) ∙ k ∙ length_words second (list_start second + 2 * f) d)))
 
-    module _ (w : x.word ≡ y.word) where
-      -- where kinds and own words agree
-      by_words : (b : Bool) → eqb x.kind 3 ≡ b → same (tree first m) (tree second n) ≡ cond b (alike (words_of first x) (words_of second y)) (same_all (named (tree first) (words_of first x)) (named (tree second) (words_of second y)))
-      unfolding same
-      by_words true e = by_parts ∙ rw (eq-eqb _ _ k, eq-eqb _ _ w, ← k, e) (and-true _)
-      by_words false e = by_parts ∙ rw (eq-eqb _ _ k, eq-eqb _ _ w, ← k, e)
+  pub hold_same : (t h p u h' p' : ℕ) → Meant first m (code.HoldTap t h p) → Meant second n (code.HoldTap u h' p')
+      → same (tree first m) (tree second n) ≡ ((eqb t u && same (tree first h) (tree second h')) && same (tree first p) (tree second p'))
+  unfolding meaning same
+  hold_same t h p u h' p' a b = rw (a.is, b.is, and-true (eqb t u), and_assoc)
 
-      pub other_count : (x.count ≡ y.count → ⊥) → same (tree first m) (tree second n) ≡ false
-      other_count h = by_words (eqb x.kind 3) refl ∙ go (eqb x.kind 3)
-        where
-          apart : length (words_of first x) ≡ length (words_of second y) → ⊥
-          apart e = h (sym (length_words first x.at x.count) ∙ e ∙ length_words second y.at y.count)
-
-          go : (b : Bool) → cond b (alike (words_of first x) (words_of second y)) (same_all (named (tree first) (words_of first x)) (named (tree second) (words_of second y))) ≡ false
-          go true = alike_not _ _ (λ e. apart (ap length e))
-          go false = named_other (tree first) (tree second) _ _ apart
-
-      pub same_codes : x.kind ≡ 3 → same (tree first m) (tree second n) ≡ alike (words_of first x) (words_of second y)
-      same_codes e = by_words true (eq-eqb _ _ e)
-
-      pub same_named : (x.kind ≡ 3 → ⊥) → same (tree first m) (tree second n) ≡ same_all (named (tree first) (words_of first x)) (named (tree second) (words_of second y))
-      same_named e = by_words false (ne_eqb _ _ e)
+-- the records that a list names are lower
+pub listed_lower : (img : List ℕ) (n e c : ℕ) → Meant img n (code.MultipleActions e c) → every (λ k. ltb k n) (listed img e c) ≡ true
+unfolding children_in
+listed_lower img n e c m = rw (entries_words img e c) at m.lower

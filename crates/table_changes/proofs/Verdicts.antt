@@ -8,32 +8,30 @@ use borrow.Author.Tests.{eqb-true}
 use lib.Dec.{eqb}
 use lib.ListN.{length}
 use Rattle.lists.proofs.Laws.{both_true}
-use Rattle.refusal.specs.declared.Verdict.{Verdict}
-use Rattle.refusal.specs.declared.Verdict.TheVariants.{Fine, Refused}
+use Rattle.std.specs.Prelude.{Ok, Err}
+use Rattle.refusal.specs.Verdict.{Verdict, fine}
 use Rattle.refusal.specs.declared.Refusal.TheVariants.{Shape}
 use Rattle.refusal.proofs.Verdicts.{rule_fine, or_fine}
 use Rattle.image.specs.Words.{layers_of, rows_of, columns_of, shape_of}
 use Rattle.image.specs.Check.{fault_of, check_of}
-use Rattle.image.specs.declared.rules.Checked.TheVariants.{Accepted}
 use Rattle.image.proofs.Faults.{check_fine}
 use Rattle.table_changes.specs.Changes.{changed, sizes_equal, compare_verdict, reply_of, compare_reply}
-use Rattle.table_changes.specs.declared.Compared.TheVariants.{Cells}
 
 pub record Compares (first second : List ℕ) (n : ℕ) : Type 0 where
-  pub first_good : check_of first ≡ Accepted (shape_of first)
-  pub second_good : check_of second ≡ Accepted (shape_of second)
+  pub first_good : check_of first ≡ Ok (shape_of first)
+  pub second_good : check_of second ≡ Ok (shape_of second)
   pub layers : layers_of first ≡ layers_of second
   pub rows : rows_of first ≡ rows_of second
   pub columns : columns_of first ≡ columns_of second
   pub count : length (changed first second) ≡ n
 
 -- an answer with a number of cells is one to a verdict with no fault
-counts : (v : Verdict) (cells bytes out : List ℕ) (n : ℕ) → (reply_of v cells bytes out).compared ≡ Cells n → (v ≡ Fine) × (length cells ≡ n)
+counts : (v : Verdict) (cells bytes out : List ℕ) (n : ℕ) → (reply_of v cells bytes out).compared ≡ Ok n → (v ≡ fine) × (length cells ≡ n)
 unfolding reply_of
-counts Fine cells bytes out n e = (refl, cc)
-counts (Refused refusal place) cells bytes out n e = (cc, cc)
+counts (Ok u) cells bytes out n e = (refl, cc)
+counts (Err f) cells bytes out n e = (cc, cc)
 
-pub compares : (first second out : List ℕ) (n : ℕ) → (compare_reply first second out).compared ≡ Cells n → Compares first second n
+pub compares : (first second out : List ℕ) (n : ℕ) → (compare_reply first second out).compared ≡ Ok n → Compares first second n
 unfolding compare_reply compare_verdict sizes_equal
 compares first second out n e =
     let c = counts (compare_verdict first second (length out)) (changed first second) _ out n e in

@@ -1,19 +1,15 @@
 -- Which cells change between two tables: document 02, W-203; what `compare` answers, and what the lent buffer then holds.
 -- Assumes nothing.
-use Rattle.std.specs.Prelude.{ℕ, zero, suc, ◌+◌, ◌*◌, ◌/◌, ◌%◌, ◌≡◌, Bool, not, ◌&&◌, List, [], ◌∷◌, eqb, leb, length}
+use Rattle.std.specs.Prelude.{ℕ, zero, suc, ◌+◌, ◌*◌, ◌/◌, ◌%◌, ◌≡◌, Bool, not, ◌&&◌, List, [], ◌∷◌, eqb, leb, length, Result, Ok, Err}
 use Rattle.lists.specs.Lists.{keep, laid}
-use Rattle.refusal.specs.Said.{Said, said, told_in}
-use Rattle.refusal.specs.Verdict.{rule, or_else}
+use Rattle.refusal.specs.Said.{said}
+use Rattle.refusal.specs.Verdict.{Verdict, fine, rule, or_else}
+use Rattle.refusal.specs.declared.Fault.{Fault}
 use Rattle.refusal.specs.declared.Refusal.TheVariants.{Shape, Room}
-use Rattle.refusal.specs.declared.Told.{Told}
-use Rattle.refusal.specs.declared.Verdict.{Verdict}
-use Rattle.refusal.specs.declared.Verdict.TheVariants.{Fine, Refused}
 use Rattle.image.specs.Check.{fault_of}
 use Rattle.image.specs.Tree.{tree}
 use Rattle.image.specs.Words.{layers_of, rows_of, columns_of, cells_of, cell_of}
 use Rattle.table_changes.specs.Same.{same}
-use Rattle.table_changes.specs.declared.Compared.{Compared}
-use Rattle.table_changes.specs.declared.Compared.TheVariants as compared
 
 -- the action of cell i, counted from the first, is another one
 unfoldable pub differs : List ℕ → List ℕ → ℕ → Bool
@@ -42,32 +38,23 @@ sizes_equal first second =
 unfoldable pub compare_verdict : List ℕ → List ℕ → ℕ → Verdict
 compare_verdict first second room =
     or_else (fault_of first)
-    (or_else (fault_of second) (rule (sizes_equal first second) Shape 0 (rule (leb (3 * cells_of first) room) Room 0 Fine)))
-
--- what is said of the answer: number 0 at place 0 and how many cells; or the refusal's number and its place, and no cell
-abbrev pub said_of : Compared → Said ℕ
-said_of (compared.Cells n) = said Fine n
-said_of (compared.Refused refusal place) = said (Refused refusal place) 0
-
--- the paper's number and place of the answer
-abbrev pub told_of : Compared → Told
-told_of x = told_in (said_of x)
+    (or_else (fault_of second) (rule (sizes_equal first second) Shape 0 (rule (leb (3 * cells_of first) room) Room 0 fine)))
 
 -- a call's whole reply
 pub record Reply : Type 0 where
-  pub compared : Compared
+  pub compared : Result ℕ Fault
   pub buffer : List ℕ
 
 -- the reply to a verdict on these cells: their bytes are laid over the start of the buffer; refused, it is as it was
 unfoldable pub reply_of : Verdict → List ℕ → List ℕ → List ℕ → Reply
-reply_of Fine cells bytes out = record { compared = compared.Cells (length cells); buffer = laid bytes out }
-reply_of (Refused refusal place) cells bytes out = record { compared = compared.Refused refusal place; buffer = out }
+reply_of (Ok u) cells bytes out = record { compared = Ok (length cells); buffer = laid bytes out }
+reply_of (Err fault) cells bytes out = record { compared = Err fault; buffer = out }
 
 unfoldable pub compare_reply : List ℕ → List ℕ → List ℕ → Reply
 compare_reply first second out =
     let cells = changed first second in
     reply_of (compare_verdict first second (length out)) cells (placed (rows_of first) (columns_of first) cells) out
 
--- a call answers so, and leaves its buffer so
-abbrev pub Replies : Reply → Compared → List ℕ → Type 0
-Replies reply x after = (said_of x ≡ said_of reply.compared) × (after ≡ reply.buffer)
+-- a call answers so, which is how many cells there are, and leaves its buffer so
+abbrev pub Replies : Reply → Result ℕ Fault → List ℕ → Type 0
+Replies reply x after = (said 0 x ≡ said 0 reply.compared) × (after ≡ reply.buffer)

@@ -1,14 +1,13 @@
 -- What the list of changed cells is worth: document 02, W-203. Every cell whose action differs is in it, no other, by layer, row and
 -- column, each once. It is said of every two images that `compare` does not refuse.
 -- Assumes nothing.
-use Rattle.std.specs.Prelude.{ℕ, ◌≡◌, Bool, true, false, ◌&&◌, List, [], ◌∷◌, ltb}
+use Rattle.std.specs.Prelude.{ℕ, ◌≡◌, Bool, true, false, ◌&&◌, List, [], ◌∷◌, ltb, Ok}
 use Rattle.lists.specs.Lists.{has}
 use Rattle.image.specs.Record.{cell_place, is_inside}
 use Rattle.image.specs.Table.{table_of}
 use Rattle.image.specs.Words.{rows_of, columns_of}
 use Rattle.table_changes.specs.Same.{unnumbered}
 use Rattle.table_changes.specs.Changes.{changed, placed, compare_reply}
-use Rattle.table_changes.specs.declared.Compared.TheVariants.{Cells}
 
 -- each number is larger than the one before it
 unfoldable pub rising : List ℕ → Bool
@@ -47,4 +46,4 @@ pub record Listing (first second : List ℕ) : Type 0 where
   pub ordered : rising (changed first second) ≡ true
 
 unfoldable pub Listed : Type 0
-Listed = (first second out : List ℕ) (n : ℕ) → (compare_reply first second out).compared ≡ Cells n → Listing first second
+Listed = (first second out : List ℕ) (n : ℕ) → (compare_reply first second out).compared ≡ Ok n → Listing first second

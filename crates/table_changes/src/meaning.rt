@@ -1,117 +1,67 @@
-// Whether two records mean the same action: document 02, W-203. Each is met as what it says by itself and the words behind that,
-// which are the codes of a MultipleKeyCodes, or number the records that it names. The record number falls.
+// Whether two records mean the same action: document 02, W-203. Codes are compared as words, and the records that a record names
+// by what they mean. The record number falls.
 // Assumes nothing.
-ghost use Rattle.std.specs.Prelude.{◌≡◌, ◌<◌};
+ghost use Rattle.std.specs.Prelude.{◌≡◌, ◌+◌, ◌*◌, ◌<◌};
 ghost use Rattle.lists.specs.Lists.{alike};
-ghost use Rattle.image.specs.Sound.{Sound};
 ghost use Rattle.image.specs.Tree.{tree};
-ghost use Rattle.image.specs.Words.{words_from};
+ghost use Rattle.image.specs.Words.{list_start, words_from};
 ghost use Rattle.table_changes.specs.Same as Same;
-ghost use Rattle.table_changes.specs.Inside.{Met, InList};
 
+use super::pair::Pair;
 use image::{Action, action_at, word_or_zero};
 
-// The kind of MultipleKeyCodes.
-const CODES: u16 = 3;
-
-// A record: its kind, its own word, and so many words from a byte offset on.
-#[derive(Drop)]
-pub(crate) struct Node {
-    pub kind: u16,
-    pub word: u16,
-    pub at: u64,
-    pub count: u16,
+// Where entry e of the list stands.
+fn entry_place(image: &[u8], e: u16) -> u64
+    ensures { (result ≡ list_start image.now + 2 * e) × (result < 1048576) }
+{
+    u64::from(word_or_zero(image, 14)) + 2 * u64::from(e)
 }
 
-// A record that names none and has no list.
-fn leaf(kind: u16, word: u16) -> Node
-    ensures { result ≡ record { kind = kind; word = word; at = 0; count = 0 } }
-{
-    Node {
-        kind,
-        word,
-        at: 0,
-        count: 0,
-    }
-}
-
-// A record with entries of the list.
-fn listed(image: &[u8], kind: u16, first: u16, count: u16) -> Node
-    ensures { InList image.now kind first count result }
-{
-    Node {
-        kind,
-        word: 0,
-        at: (word_or_zero(image, 14) as u64) + 2 * (first as u64),
-        count,
-    }
-}
-
-// Record n. The words of a HoldTap are its last two, hold and tap.
-fn node_of(image: &[u8], n: u16) -> Node
-    requires { Sound image.now }
-    ensures { Met image.now n result }
-{
-    match action_at(image, n as usize) {
-        Action::NoOp => leaf(0, 0),
-        Action::Trans => leaf(1, 0),
-        Action::KeyCode(code) => leaf(2, code),
-        Action::MultipleKeyCodes(first, count) => listed(image, CODES, first, count),
-        Action::MultipleActions(first, count) => listed(image, 4, first, count),
-        Action::Layer(number) => leaf(5, number),
-        Action::DefaultLayer(number) => leaf(6, number),
-        Action::HoldTap(timeout, _, _) => Node {
-            kind: 7,
-            word: timeout,
-            at: (word_or_zero(image, 12) as u64) + 8 * (n as u64) + 4,
-            count: 2,
-        },
-    }
-}
-
-// So many words of each are the same.
-fn same_words(first: &[u8], at: u64, second: &[u8], other: u64, count: u16) -> bool
-    requires { (at < 1048576) × (other < 1048576) }
-    ensures { result ≡ alike (words_from first.now at count) (words_from second.now other count) }
-{
-    let mut i = 0;
-    while i < count {
-        let skip = 2 * (i as u64);
-        if word_or_zero(first, at + skip) != word_or_zero(second, other + skip) {
-            return false;
+impl Pair<'_> {
+    // So many words of each are the same.
+    fn same_words(&self, at: u64, other: u64, count: u16) -> bool
+        requires { (at < 1048576) × (other < 1048576) }
+        ensures { result ≡ alike (words_from self.now.first.now at count) (words_from self.now.second.now other count) }
+    {
+        for i in 0..count {
+            let skip = 2 * u64::from(i);
+            if word_or_zero(self.first, at + skip) != word_or_zero(self.second, other + skip) {
+                return false;
+            }
         }
-        i += 1;
+        true
     }
-    true
-}
 
-// Record m of the first image and record n of the second mean the same.
-pub(crate) fn same(first: &[u8], m: u16, second: &[u8], n: u16) -> bool
-    requires { Sound first.now × Sound second.now }
-    ensures { result ≡ Same.same (tree first.now m) (tree second.now n) }
-{
-    let one = node_of(first, m);
-    let other = node_of(second, n);
-    if one.kind != other.kind {
-        return false;
-    }
-    if one.word != other.word {
-        return false;
-    }
-    if one.count != other.count {
-        return false;
-    }
-    if one.kind == CODES {
-        return same_words(first, one.at, second, other.at, one.count);
-    }
-    let mut i = 0;
-    while i < one.count {
-        let skip = 2 * (i as u64);
-        let k = word_or_zero(first, one.at + skip);
-        if !same(first, k, second, word_or_zero(second, other.at + skip)) {
-            return false;
+    // Record m of the first and record n of the second mean the same.
+    pub(crate) fn same(&self, m: u16, n: u16) -> bool
+        ensures { result ≡ Same.same (tree self.now.first.now m) (tree self.now.second.now n) }
+    {
+        let one = action_at(self.first, usize::from(m));
+        let other = action_at(self.second, usize::from(n));
+        match (one, other) {
+            (Action::MultipleKeyCodes(e, count), Action::MultipleKeyCodes(f, others)) => {
+                let at = entry_place(self.first, e);
+                count == others && self.same_words(at, entry_place(self.second, f), count)
+            }
+            (Action::MultipleActions(e, count), Action::MultipleActions(f, others)) => {
+                if count != others {
+                    return false;
+                }
+                let at = entry_place(self.first, e);
+                let there = entry_place(self.second, f);
+                for i in 0..count {
+                    let skip = 2 * u64::from(i);
+                    let k = word_or_zero(self.first, at + skip);
+                    if !self.same(k, word_or_zero(self.second, there + skip)) {
+                        return false;
+                    }
+                }
+                true
+            }
+            (Action::HoldTap(timeout, hold, tap), Action::HoldTap(time, held, tapped)) => {
+                timeout == time && self.same(hold, held) && self.same(tap, tapped)
+            }
+            _ => one == other,
         }
-        i += 1;
     }
-    true
 }
