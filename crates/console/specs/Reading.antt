@@ -6,7 +6,7 @@ use Rattle.text.specs.Input.{filled_of, gathered_reading, gathered_line}
 use Rattle.text.specs.declared.input.Reading.{Reading}
 
 -- all that was read is taken
-unfoldable pub taken : Reading → Bool
+abbrev pub taken : Reading → Bool
 taken p = leb p.end p.at
 
 -- where it is, a read, which brought n bytes; else as much of a line as is here

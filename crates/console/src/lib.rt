@@ -10,15 +10,15 @@ use std::io::{Read, Stdin, Stdout, Write};
 use text::{Reading, Text, front, gather};
 
 // How many bytes a read brings; none where it fails, which is the end of the input.
-fn read_some(stdin: Stdin, input: &mut [u8]) -> usize
+fn read_some(mut stdin: Stdin, input: &mut [u8]) -> usize
     ensures { result ≤ length input.old }
 {
-    let mut from = stdin;
-    from.read(input).unwrap_or(0)
+    stdin.read(input).unwrap_or(0)
 }
 
 // A part of a line, up to its end if that is here; or a read, where all that was here is taken. A read that fails is the end of
 // the input.
+#[tactic(auto, unfolding(crate::specs::Reading::advanced_reading, crate::specs::Reading::advanced_line, text::specs::Input::filled_of))]
 pub fn advance(stdin: Stdin, input: &mut [u8], line: &mut [u8], reading: Reading) -> Reading
     ensures { Advances input.old reading line.old result input.new line.new }
 {
@@ -30,11 +30,10 @@ pub fn advance(stdin: Stdin, input: &mut [u8], line: &mut [u8], reading: Reading
 
 // Writes bytes, or says why they could not all be written. Nothing can be promised of it but that it returns: its clause says
 // no more, since () is one value.
-pub fn write_all(stdout: Stdout, bytes: &[u8]) -> io::Result<()>
+pub fn write_all(mut stdout: Stdout, bytes: &[u8]) -> io::Result<()>
     ensures { IfOk result (λ v. v ≡ tt) }
 {
-    let mut to = stdout;
-    to.write_all(bytes)
+    stdout.write_all(bytes)
 }
 
 // Writes a line, likewise.
@@ -42,8 +41,7 @@ pub fn put_line(stdout: Stdout, text: Text) -> io::Result<()>
     ensures { IfOk result (λ v. v ≡ tt) }
 {
     let whole = text.put(b'\n');
-    let bytes = whole.bytes;
-    write_all(stdout, front(&bytes, whole.len))
+    write_all(stdout, front(&whole.bytes, whole.len))
 }
 
 // Writes a line. Nothing can be promised of it but that it returns; where it fails there is nobody to tell.
