@@ -28,6 +28,21 @@ pub fn advance(stdin: Stdin, input: &mut [u8], line: &mut [u8], reading: Reading
     gather(input, line, reading)
 }
 
+// Reads to the end of what is read from, or to the buffer's, and says how many bytes came; or why a read failed.
+pub fn read_whole(from: &mut dyn Read, bytes: &mut [u8]) -> io::Result<usize>
+    ensures { IfOk result (λ n. n ≤ length bytes.old) }
+{
+    let mut n = 0;
+    while n < bytes.len() {
+        let count = from.read(&mut bytes[n..])?;
+        if count == 0 {
+            return Ok(n);
+        }
+        n += count;
+    }
+    Ok(n)
+}
+
 // Writes bytes, or says why they could not all be written. Nothing can be promised of it but that it returns: its clause says
 // no more, since () is one value.
 pub fn write_all(mut stdout: Stdout, bytes: &[u8]) -> io::Result<()>

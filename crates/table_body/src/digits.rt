@@ -31,10 +31,8 @@ fn write_digits(n: usize, k: usize, out: &mut [u8])
     requires { k ≤ length out.old }
     ensures { take k out.new ≡ last_digits 10 k n }
 {
-    let mut i = k;
     let mut rest = n;
-    while i > 0 {
-        i -= 1;
+    for i in (0..k).rev() {
         out[i] = b'0' + (rest % 10) as u8;
         rest /= 10;
     }

@@ -5,17 +5,15 @@
 #![tactic(auto)]
 
 mod digits;
-mod input;
 
 ghost use Rattle.std.specs.Prelude.{◌≡◌, length};
+ghost use Rattle.refusal.specs.Number.{number_of};
 ghost use Rattle.table_body.specs.Line.{Refuses};
 
-use console::{write_all, write_line};
+use console::{read_whole, write_all, write_line};
 use digits::decimal;
-use input::Taken;
-use refusal::Told;
+use refusal::Fault;
 use std::io::{Stdin, Stdout};
-use table_text::Made;
 use text::{Text, front};
 
 // One byte more than a text may have here, 1,048,576. A text that fills it is too long.
@@ -36,25 +34,25 @@ fn text_room() -> [u8; TEXT]
 }
 
 // A refusal's number and its place. The place may be a line's number, which can have more than five digits.
-fn refusal_line(told: Told) -> Text
-    ensures { Refuses told.number told.place result }
+fn refusal_line(fault: Fault) -> Text
+    ensures { Refuses (number_of fault.refusal) fault.place result }
 {
     let mut digits = [0u8; 20];
-    let n = decimal(told.place, &mut digits);
+    let n = decimal(fault.place, &mut digits);
     Text::new()
         .put_all(b"refused ")
-        .put_number(told.number as usize)
+        .put_number(fault.refusal.number() as usize)
         .put(b' ')
         .put_all(&digits[..n])
 }
 
 // What was made, from the buffer's start; or the refusal.
-fn hand_over(stdout: Stdout, made: Made, out: &[u8]) {
+fn hand_over(stdout: Stdout, made: Result<usize, Fault>, out: &[u8]) {
     match made {
-        Made::Bytes(n) => {
+        Ok(n) => {
             let _ = write_all(stdout, front(out, n));
         }
-        Made::Refused(_, _) => write_line(stdout, refusal_line(made.told())),
+        Err(fault) => write_line(stdout, refusal_line(fault)),
     }
 }
 
@@ -79,25 +77,23 @@ fn print_text(stdout: Stdout, image: &[u8]) {
 }
 
 // The whole of `table_write`. Nothing can be promised of what it reads and writes: it ends, and is safe.
-pub fn write(stdin: Stdin, stdout: Stdout)
+pub fn write(mut stdin: Stdin, stdout: Stdout)
     ensures { result ≡ tt }
 {
     let mut bytes = text_room();
-    let taken = input::take(stdin, &mut bytes);
-    match taken {
-        Taken::Bytes(n) => write_image(stdout, front(&bytes, n)),
-        Taken::Nothing => say(stdout, b"unreadable"),
+    match read_whole(&mut stdin, &mut bytes) {
+        Ok(n) => write_image(stdout, front(&bytes, n)),
+        Err(_) => say(stdout, b"unreadable"),
     }
 }
 
 // The whole of `table_print`, likewise.
-pub fn print(stdin: Stdin, stdout: Stdout)
+pub fn print(mut stdin: Stdin, stdout: Stdout)
     ensures { result ≡ tt }
 {
     let mut bytes = [0u8; IMAGE];
-    let taken = input::take(stdin, &mut bytes);
-    match taken {
-        Taken::Bytes(n) => print_text(stdout, front(&bytes, n)),
-        Taken::Nothing => say(stdout, b"unreadable"),
+    match read_whole(&mut stdin, &mut bytes) {
+        Ok(n) => print_text(stdout, front(&bytes, n)),
+        Err(_) => say(stdout, b"unreadable"),
     }
 }

@@ -1,7 +1,7 @@
 -- What `write` replies, by where the text or its image is at fault, and the image that is built of a text. Assumes nothing.
 use Prim.Native.Nat.{ℕ, ◌+◌, ◌*◌}
-use mathlib.Core.Bool.{true}
-use mathlib.Core.List.{List, []}
+use mathlib.Core.Bool.{Bool, true, false}
+use mathlib.Core.List.{List, [], ◌∷◌}
 use mathlib.Core.Path.{◌≡◌, refl, sym, ap, ◌∙◌}
 use native.Mathlib.Omega.{arith}
 use lib.ListN.{length, take, drop, get_or, replicate}
@@ -9,13 +9,13 @@ use lib.Seq.{sets}
 use Rattle.std.specs.Prelude.{Ok, Err}
 use Rattle.image.specs.Check.{counts_good}
 use Rattle.image.specs.declared.words.Shape.{Shape}
-use Rattle.refusal.specs.Verdict.{Verdict, fine, kept_or, rule, or_else, granted}
+use Rattle.refusal.specs.Verdict.{Verdict, fine, refused, kept_or, rule, or_else, granted}
 use Rattle.refusal.proofs.Verdicts.{rule_stop}
 use Rattle.refusal.specs.declared.Fault.{Fault}
-use Rattle.refusal.specs.declared.Refusal.TheVariants.{Header}
+use Rattle.refusal.specs.declared.Refusal.TheVariants.{Header, Text}
 use Rattle.table_text.specs.Lines.{parts, row_of, numbers_in, numbers_of}
 use Rattle.table_text.specs.Made.{reply_of}
-use Rattle.table_text.specs.Write.{counts_in, text_fault, bytes_of, image_from, image_of, write_verdict, write_reply}
+use Rattle.table_text.specs.Write.{fits_at, lines_fault, counts_in, text_fault, bytes_of, image_from, image_of, write_verdict, write_reply}
 use Rattle.table_text.specs.Inside.{Small, headed_of, checked_reply}
 use Rattle.table_text.proofs.Built.{small, built}
 use Rattle.table_text.proofs.ImageRows.{made_length}
@@ -23,6 +23,22 @@ use Rattle.table_text.proofs.Shaped.{split}
 use Rattle.table_text.proofs.Parts.{parts_some}
 use Rattle.table_text.proofs.TextRows.{rows_of_text, rows_of_parts, parts_first, fine_parts, text_shaped, text_counts, text_numbers}
 use Rattle.table_text.proofs.WordBytes.{bytes_length}
+
+-- a text is refused by Text alone
+abbrev textual : Verdict → Verdict
+textual (Ok u) = fine
+textual (Err fault) = refused Text fault.place
+
+textual_rule : (t : Bool) (i : ℕ) (rest : Verdict) → rest ≡ textual rest → rule t Text i rest ≡ textual (rule t Text i rest)
+unfolding rule
+textual_rule true i rest e = e
+textual_rule false i rest e = refl
+
+text_alone : (s : Shape) (i : ℕ) (ps : List (List ℕ)) → lines_fault s i ps ≡ textual (lines_fault s i ps)
+unfolding lines_fault
+text_alone s i [] = refl
+text_alone s i (p ∷ []) = textual_rule _ i fine refl
+text_alone s i (p ∷ (q ∷ ps)) = textual_rule (fits_at s i (row_of p)) i (lines_fault s (i + 1) (q ∷ ps)) (text_alone s (i + 1) (q ∷ ps))
 
 -- what is read: the fault of a text; or that it fits, and its counts
 read_refused : (f : Verdict) (s : Shape) (a : Fault) → granted f s ≡ Err a → f ≡ Err a
@@ -32,6 +48,13 @@ read_refused (Err b) s a e = cc
 read_fits : (f : Verdict) (s t : Shape) → granted f s ≡ Ok t → (f ≡ fine) × (t ≡ s)
 read_fits (Ok u) s t e = (refl, cc)
 read_fits (Err b) s t e = (cc, cc)
+
+-- so a text that is refused is refused by Text, at the line that is answered
+pub judged_line : (text : List ℕ) (a : Fault) → granted (text_fault text) (counts_in text) ≡ Err a → text_fault text ≡ refused Text a.place
+unfolding text_fault
+judged_line text a e =
+    let alone = text_alone (counts_in text) 1 (parts 10 text) in
+    alone ∙ ap textual (read_refused (text_fault text) (counts_in text) a e)
 
 -- the reply
 module _ (text out : List ℕ) where
