@@ -15,6 +15,7 @@ pub(crate) const LARGEST: usize = 6160;
 const WORDS: usize = 3080;
 
 // Word k of the image that is built. What is past the largest image's end is left out: counts that ask for so much are illegal.
+#[tactic(auto, using(crate::proofs::WordBytes::word_out))]
 pub(crate) fn put_word(image: &mut [u8; LARGEST], k: usize, n: u16)
     ensures { image.new ≡ sets image.old (2 * k) (bytes_of (n ∷ [])) }
 {

@@ -15,6 +15,7 @@ use image::{Shape, word_or_zero};
 use refusal::{Fault, Refusal, rule};
 
 // The five counts, which stand behind the version, and the offsets that they make.
+#[tactic(auto, unfolding(crate::specs::Write::shape_from, image::specs::Words::words_from))]
 fn shape_in(image: &[u8]) -> Shape
     ensures { (result ≡ shape_from (words_from image.now 2 5)) × Words result }
 {
@@ -61,6 +62,7 @@ impl Asked {
     }
 
     // Line i, counted from 1, is asked for with n numbers.
+    #[tactic(auto, unfolding(crate::specs::Write::asks))]
     fn asks(self, i: usize, n: usize) -> bool
         ensures { (s : Shape) → self ≡ asked_by s → result ≡ asks s i n }
     {
