@@ -18,7 +18,7 @@ fn put(out: &mut [u8], at: usize, byte: u8)
 }
 
 // The digit of n that counts so many, unless it is a zero in front.
-#[tactic(auto, using(text::proofs::Laws::place_past, text::proofs::Laws::place_digit, crate::proofs::Laid::lays_none, crate::proofs::Laid::lays_one))]
+#[tactic(auto, unfolding(text::specs::Text::place_of))]
 fn lay_place(n: usize, unit: usize, out: &mut [u8], at: usize) -> usize
     requires { (0 < unit) × (at < 1000000) }
     ensures { Lays (place_of n unit) at out.old result out.new }
