@@ -1,4 +1,5 @@
-// A number in decimal, whatever its length; the texts of `text` have five digits at most. Assumes nothing.
+// A number in decimal, whatever its length: the texts of `text` have five digits at most, and `write!` promises its bytes only where
+// it succeeds, and never that it does. Assumes nothing.
 ghost use Rattle.std.specs.Prelude.{◌≡◌, ◌<◌, ◌≤◌, length, take};
 ghost use Rattle.table_body.specs.Digits.{last_digits, IsDigitCount};
 

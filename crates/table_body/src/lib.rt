@@ -76,24 +76,33 @@ fn print_text(stdout: Stdout, image: &[u8]) {
     hand_over(stdout, made, &text);
 }
 
-// The whole of `table_write`. Nothing can be promised of what it reads and writes: it ends, and is safe.
-pub fn write(mut stdin: Stdin, stdout: Stdout)
-    ensures { result ≡ tt }
+// Answers the whole input, or says that it cannot be read.
+fn answer<Make: FnOnce(Stdout, &[u8])>(
+    mut stdin: Stdin,
+    stdout: Stdout,
+    room: &mut [u8],
+    make: Make,
+)
+    requires { Make.IsAlwaysCallable make }
 {
-    let mut bytes = text_room();
-    match read_whole(&mut stdin, &mut bytes) {
-        Ok(n) => write_image(stdout, front(&bytes, n)),
+    match read_whole(&mut stdin, room) {
+        Ok(n) => make(stdout, front(room, n)),
         Err(_) => say(stdout, b"unreadable"),
     }
 }
 
+// The whole of `table_write`. Nothing can be promised of what it reads and writes: it ends, and is safe.
+pub fn write(stdin: Stdin, stdout: Stdout)
+    ensures { result ≡ tt }
+{
+    let mut bytes = text_room();
+    answer(stdin, stdout, &mut bytes, write_image);
+}
+
 // The whole of `table_print`, likewise.
-pub fn print(mut stdin: Stdin, stdout: Stdout)
+pub fn print(stdin: Stdin, stdout: Stdout)
     ensures { result ≡ tt }
 {
     let mut bytes = [0u8; IMAGE];
-    match read_whole(&mut stdin, &mut bytes) {
-        Ok(n) => print_text(stdout, front(&bytes, n)),
-        Err(_) => say(stdout, b"unreadable"),
-    }
+    answer(stdin, stdout, &mut bytes, print_text);
 }

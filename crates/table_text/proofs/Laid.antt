@@ -16,10 +16,7 @@ sets_append l i (x ∷ a) b =
     let e : suc i + length a ≡ i + suc (length a) = omega arith in
     sets_append (set l i x) (suc i) a b ∙ ap (λ k. sets (sets (set l i x) (suc i) a) k b) e
 
--- no byte, one, and those of a call behind those of another
-pub lays_none : (at : ℕ) (out : List ℕ) → Lays [] at out at out
-lays_none at out = record { ends = omega arith; holds = refl }
-
+-- one byte, and those of a call behind those of another
 pub lays_one : {at : ℕ} {out after : List ℕ} (byte : ℕ) → after ≡ set out at byte → Lays (byte ∷ []) at out (at + 1) after
 lays_one byte e = record { ends = refl; holds = e }
 

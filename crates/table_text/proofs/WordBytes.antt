@@ -1,5 +1,5 @@
 -- Words as bytes, and back. Assumes nothing.
-use Prim.Native.Nat.{ℕ, zero, suc, ◌+◌, ◌*◌, ◌/◌, ◌%◌, ◌<◌}
+use Prim.Native.Nat.{ℕ, zero, suc, ◌+◌, ◌*◌, ◌/◌, ◌%◌, ◌<◌, ◌≤◌}
 use mathlib.Core.Bool.{true}
 use mathlib.Core.List.{List, [], ◌∷◌, ◌++◌}
 use mathlib.Core.Path.{◌≡◌, refl, sym, ap, ◌∙◌}
@@ -8,7 +8,7 @@ use native.Mathlib.Omega.{arith}
 use borrow.Author.Tests.{le-leb}
 use lib.Dec.{leb}
 use lib.ListN.{length, get_or, drop}
-use lib.Seq.{drop_at, get_or-drop}
+use lib.Seq.{sets, set_out, drop_at, get_or-drop}
 use Rattle.lists.specs.Lists.{every}
 use Rattle.image.specs.Words.{word_at, words_from}
 use Rattle.table_text.specs.Write.{bytes_of}
@@ -83,3 +83,10 @@ pub words_small : (img : List ℕ) (at n : ℕ) → ((i : ℕ) → get_or img i 
 unfolding words_from word_at
 words_small img at zero b = refl
 words_small img at (suc n) b = rw (le-leb (word_at img at) 65535 (omega (arith, b at, b (at + 1)))) (words_small img (at + 2) n b)
+
+-- a word past the end changes nothing
+pub word_out : (image : List ℕ) (at n : ℕ) → length image ≤ at → image ≡ sets image at (bytes_of (n ∷ []))
+unfolding bytes_of
+word_out image at n h =
+    let first = set_out image at (n % 256) h in
+    sym (rw first (set_out image (suc at) _ (omega arith)))

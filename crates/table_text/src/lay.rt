@@ -18,6 +18,7 @@ fn put(out: &mut [u8], at: usize, byte: u8)
 }
 
 // The digit of n that counts so many, unless it is a zero in front.
+#[tactic(auto, unfolding(text::specs::Text::place_of))]
 fn lay_place(n: usize, unit: usize, out: &mut [u8], at: usize) -> usize
     requires { (0 < unit) × (at < 1000000) }
     ensures { Lays (place_of n unit) at out.old result out.new }
@@ -85,6 +86,7 @@ fn lay_lines(
 }
 
 // The whole text, from the buffer's start.
+#[tactic(auto, using(crate::proofs::Printed::few, crate::proofs::Printed::line_short, crate::proofs::Printed::lines_short))]
 pub(crate) fn lay_text(image: &[u8], s: Shape, out: &mut [u8]) -> usize
     requires { Headed image.now s }
     ensures { Lays (text_of image.now) 0 out.old result out.new }

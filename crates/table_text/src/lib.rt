@@ -23,6 +23,7 @@ use read::read_text;
 use refusal::{Fault, Refusal, rule};
 
 // An image that is built is checked, and handed over where it is accepted and there is room.
+#[tactic(auto, using(refusal::proofs::Verdicts::rule_kept))]
 fn hand_over(image: &[u8], out: &mut [u8]) -> Result<usize, Fault>
     ensures { Replies (checked_reply image.now out.old) result out.new }
 {
@@ -33,6 +34,7 @@ fn hand_over(image: &[u8], out: &mut [u8]) -> Result<usize, Fault>
 }
 
 // An image that is built gets its version and its offsets. How long it is.
+#[tactic(auto, unfolding(crate::specs::Inside::headed_of))]
 fn put_header(image: &mut [u8; LARGEST], s: Shape) -> usize
     requires { Small s }
     ensures { (result ≡ s.list_at + 2 * s.entries) × (image.new ≡ headed_of s image.old) }

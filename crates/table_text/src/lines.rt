@@ -15,6 +15,7 @@ pub(crate) const LARGEST: usize = 6160;
 const WORDS: usize = 3080;
 
 // Word k of the image that is built. What is past the largest image's end is left out: counts that ask for so much are illegal.
+#[tactic(auto, using(crate::proofs::WordBytes::word_out))]
 pub(crate) fn put_word(image: &mut [u8; LARGEST], k: usize, n: u16)
     ensures { image.new ≡ sets image.old (2 * k) (bytes_of (n ∷ [])) }
 {
@@ -33,6 +34,7 @@ fn past_spaces(line: &[u8], at: usize) -> usize
 }
 
 // The numbers of a line without its newline, as words from word k on: how many it has, or nothing where a word is no number.
+// A `for` over `split` would take each space of a run for the end of an empty word.
 pub(crate) fn read_line(line: &[u8], image: &mut [u8; LARGEST], k: usize) -> Option<usize>
     requires { k + length line.now < 2 ^ 64 }
     ensures { ReadsLine line.now k image.old result image.new }

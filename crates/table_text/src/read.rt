@@ -15,6 +15,7 @@ use image::{Shape, word_or_zero};
 use refusal::{Fault, Refusal, rule};
 
 // The five counts, which stand behind the version, and the offsets that they make.
+#[tactic(auto, unfolding(crate::specs::Write::shape_from, image::specs::Words::words_from))]
 fn shape_in(image: &[u8]) -> Shape
     ensures { (result ≡ shape_from (words_from image.now 2 5)) × Words result }
 {
@@ -61,6 +62,7 @@ impl Asked {
     }
 
     // Line i, counted from 1, is asked for with n numbers.
+    #[tactic(auto, unfolding(crate::specs::Write::asks))]
     fn asks(self, i: usize, n: usize) -> bool
         ensures { (s : Shape) → self ≡ asked_by s → result ≡ asks s i n }
     {
@@ -87,7 +89,8 @@ fn unfit(line: usize) -> Fault
     }
 }
 
-// The lines behind the first, which begin at a place of the text.
+// The lines behind the first, which begin at a place of the text. A `for` over `split` would take what is behind the last newline for
+// a line.
 fn read_lines(text: &[u8], image: &mut [u8; LARGEST], s: Shape, from: usize) -> Result<Shape, Fault>
     requires { (1 ≤ from) × (from ≤ length text.now) × Words s }
     ensures { ReadsLines (drop from text.now) s image.old result image.new }

@@ -37,9 +37,6 @@ returns-in_err-rule c =
     let kept = sound (goal.at.returns-in_err-rule c).In_ok-check in
     rw (p.1, p.2) (reply_short a.image.now a.image.now a.out.now kept _ (sym c.rule.ensures ∙ c.in_err-rule.was))
 
-pub slice_bounds-copy_from_slice-end : goal.slice_bounds-copy_from_slice-end
-slice_bounds-copy_from_slice-end c = room (goal.at.slice_bounds-copy_from_slice-end c).In_ok-rule
-
 pub slice_bounds-copy_from_slice-end-2 : goal.slice_bounds-copy_from_slice-end-2
 slice_bounds-copy_from_slice-end-2 c = sym (length-take-le _ c.args.out.now (room (goal.at.slice_bounds-copy_from_slice-end-2 c).In_ok-rule))
 

@@ -7,20 +7,13 @@ use mathlib.Core.Path.{◌≡◌}
 use native.Mathlib.Omega.{arith}
 use lib.Dec.{eqb}
 use lib.ListN.{length-append}
-use Rattle.image.specs.Words.{word_at, words_from}
+use Rattle.image.specs.Words.{word_at}
 use Rattle.text.specs.Text.{decimal_of}
-use Rattle.table_text.specs.Inside.{marked, Lays}
-use Rattle.table_text.proofs.Laid.{rest_start, rest_on, rest_end}
+use Rattle.table_text.specs.Inside.{Lays}
+use Rattle.table_text.proofs.Laid.{rest_on, rest_end}
 use Rattle.table_text.proofs.Decimal.{decimal_short}
 use Rattle.table_text.proofs.Printed.{line_is, marks_on, marks_none}
 use Rattle.table_text.proofs.lay.lay_line.Goals as goal
-
-pub loop-i-init : goal.loop-i-init
-loop-i-init c =
-    let a = c.args in
-    let p : a.from + 2 * 0 ≡ a.from = omega arith in
-    let w : a.width - 0 ≡ a.width = omega arith in
-    (omega arith, rw (p, w) (rest_start (marked (words_from a.image.now a.from a.width)) a.at a.out.now))
 
 pub loop-i-preserved : goal.loop-i-preserved
 loop-i-preserved c =

@@ -1,9 +1,9 @@
 -- `table_text::lines::put_word` meets its contract. Assumes nothing.
-use Prim.Native.Nat.{◌*◌, ◌+◌, ◌-◌, ◌/◌, ◌%◌, suc, ◌≤◌}
+use Prim.Native.Nat.{◌*◌, ◌+◌, ◌-◌, ◌/◌, ◌%◌}
 use mathlib.Core.List.{[], ◌∷◌, append_assoc}
 use mathlib.Core.Path.{◌≡◌, sym, ◌∙◌}
 use native.Mathlib.Omega.{arith}
-use lib.Seq.{set_out, sets-eq, drop-drop}
+use lib.Seq.{sets-eq, drop-drop}
 use Rattle.table_text.specs.Write.{bytes_of}
 use Rattle.table_text.proofs.lines.put_word.Goals as goal
 
@@ -17,11 +17,3 @@ returns-then-k-lt-WORDS c =
     let two : 2 * a.k + 2 - 2 * a.k ≡ 2 = omega arith in
     let set = sets-eq bytes a.image.now (2 * a.k) (omega (arith, c.if-k-lt-WORDS.true)) in
     rw (two, new, drop-drop 2 (2 * a.k) a.image.now) (sym (set ∙ append_assoc _ bytes _))
-
-pub returns-else-k-lt-WORDS : goal.returns-else-k-lt-WORDS
-unfolding bytes_of
-returns-else-k-lt-WORDS c =
-    let a = c.args in
-    let past : 6160 ≤ 2 * a.k = omega (arith, c.if-k-lt-WORDS.false) in
-    let first = set_out a.image.now (2 * a.k) (a.n % 256) (omega (arith, past)) in
-    sym (rw first (set_out a.image.now (suc (2 * a.k)) _ (omega (arith, past))))

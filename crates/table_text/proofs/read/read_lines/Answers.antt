@@ -4,7 +4,7 @@ use Prim.Native.Nat.{suc, ◌+◌, ◌-◌, ◌<◌, ◌≤◌}
 use mathlib.Core.Path.{◌≡◌, sym, ap, ◌∙◌}
 use borrow.Author.Tests.{ltb-true, ltb-false}
 use native.Mathlib.Omega.{arith}
-use lib.ListN.{length, length-take, length-drop, drop, drop_of_length-le}
+use lib.ListN.{length, length-drop, drop, drop_of_length-le}
 use lib.Seq.{drop-drop}
 use Rattle.std.proofs.lemmas.Result.{err_from_is_err_and}
 use Rattle.refusal.proofs.Verdicts.{rule_broken, rule_kept}
@@ -40,11 +40,6 @@ returns-in_err-rule c =
     let all : index_of 10 T ≡ length T = simp length-drop (omega (arith, c.find-end.ensures.0, c.find-end.ensures.1, past)) in
     rw (p.1, p.2) (lines_fault_lem c.loop-at.invariant.3 _ c.loop-at.image (fault_open c.args.s c.loop-at.line T some all ∙ sym b.1))
 
-pub read_line-requires : goal.read_line-requires
-read_line-requires c =
-    let inv = c.loop-at.invariant in
-    simp (length-take, length-drop) (omega (arith, inv.0, inv.2))
-
 pub returns-in_err-n : goal.returns-in_err-n
 returns-in_err-n c =
     let p = err_from_is_err_and c.from_residual-in_err-n.result c.from_residual-in_err-n.ensures.1 in
@@ -68,12 +63,6 @@ returns-in_err-rule-2 c =
     let no = fits_numbers s i _ q.0 ∙ ap (asks s i) q.1 ∙ sym (c.asks.ensures s c.by-asked.ensures) ∙ b.0 in
     let fault = fault_line s i T (closed (goal.at.returns-in_err-rule-2 c).In_ok-rule) no in
     rw (p.1, p.2) (lines_fault_lem c.loop-at.invariant.3 _ c.read_line.new.image (fault ∙ sym b.1))
-
-pub overflow_add-k : goal.overflow_add-k
-overflow_add-k c =
-    let T = drop c.loop-at.at c.args.text.now in
-    let few = (line_laid T _ _ (long (goal.at.overflow_add-k c).After-find-end) c.in_ok-n.n c.loop-at.k _ _ c.read_line.ensures c.in_ok-n.ensures.ok_part).0 in
-    omega (arith, few, c.loop-at.invariant.0, c.loop-at.invariant.2)
 
 pub loop-at-preserved : goal.loop-at-preserved
 loop-at-preserved c =

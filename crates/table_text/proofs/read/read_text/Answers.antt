@@ -3,7 +3,7 @@ use Prim.Native.Nat.{suc, ◌+◌, ◌<◌}
 use mathlib.Core.Path.{◌≡◌, sym, ap, ◌∙◌}
 use borrow.Author.Tests.{eqb-true, ltb-true, ltb-false}
 use native.Mathlib.Omega.{arith}
-use lib.ListN.{length, length-take, take, drop}
+use lib.ListN.{length, take, drop}
 use Rattle.image.specs.Words.{words_from}
 use Rattle.std.proofs.Common.{lit≤}
 use Rattle.std.proofs.lemmas.Result.{err_from_is_err_and}
@@ -31,9 +31,6 @@ returns-in_err-rule c =
     let b = rule_broken _ _ _ (sym c.rule.ensures ∙ c.in_err-rule.was) in
     let all : index_of 10 a.text.now ≡ length a.text.now = omega (arith, c.find-end.ensures.0, c.find-end.ensures.1, ltb-false _ _ b.0) in
     rw (p.1, p.2) (text_fault_lem a.text.now a.image.now _ a.image.now (text_open a.text.now all ∙ sym b.1))
-
-pub read_line-requires : goal.read_line-requires
-read_line-requires c = simp length-take (omega arith)
 
 pub returns-in_err-n : goal.returns-in_err-n
 returns-in_err-n c =
