@@ -51,17 +51,17 @@ impl State {
 }
 
 // Something else waits.
-pub(crate) fn with_waiting(active: Active, waiting: Option<WaitingState>) -> Active
-    requires { Tidy active }
-    ensures { (img : List ℕ) → Moves img active result (with_waiting (waiting_of img waiting)) }
+pub(crate) fn with_waiting(active: &Active, waiting: Option<WaitingState>) -> Active
+    requires { Tidy active.now }
+    ensures { (img : List ℕ) → Moves img active.now result (with_waiting (waiting_of img waiting)) }
 {
-    Active { waiting, ..active }
+    Active { waiting, ..*active }
 }
 
 // A release drops all states of its coordinates and keeps the others' order.
-pub(crate) fn release(active: Active, coord: Coord) -> Active
-    requires { Tidy active }
-    ensures { (img : List ℕ) → Moves img active result (λ l. with_states (release_of coord l.states) l) }
+pub(crate) fn release(active: &Active, coord: Coord) -> Active
+    requires { Tidy active.now }
+    ensures { (img : List ℕ) → Moves img active.now result (λ l. with_states (release_of coord l.states) l) }
 {
     let mut states = [State::UNUSED; Layout::STATES];
     let mut len = 0;
@@ -74,14 +74,14 @@ pub(crate) fn release(active: Active, coord: Coord) -> Active
     Active {
         states,
         len,
-        ..active
+        ..*active
     }
 }
 
 // The sum of the held Layer numbers, or the default layer if none is held.
-pub(crate) fn current_layer(active: Active) -> usize
-    requires { Tidy active }
-    ensures { result ≡ current active.default_layer (held (states_in active)) }
+pub(crate) fn current_layer(active: &Active) -> usize
+    requires { Tidy active.now }
+    ensures { result ≡ current active.now.default_layer (held (states_in active.now)) }
 {
     let mut sum = None;
     for state in &active.states[..active.len] {

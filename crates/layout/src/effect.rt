@@ -32,8 +32,8 @@ pub(crate) struct Effect {
 }
 
 // Before an action runs.
-pub(crate) fn effect_of(active: Active, notes: Notes) -> Effect
-    ensures { result ≡ effect_of active notes }
+pub(crate) fn effect_of(active: &Active, notes: Notes) -> Effect
+    ensures { result ≡ effect_of active.now notes }
 {
     Effect {
         default_layer: active.default_layer,
@@ -138,13 +138,13 @@ pub(crate) fn with_default(effect: Effect, layers: usize, value: u16) -> Effect
 
 // What a call has come to once an action has run: what was added stands behind the states.
 pub(crate) fn after_effect(
-    active: Active,
+    active: &Active,
     effect: Effect,
     added: &[u32; Layout::STATES],
     coord: Coord,
 ) -> Progress
-    requires { Tidy active × HasRoom effect added.now × (effect.held ≡ active.len) }
-    ensures { Grown active effect added.now coord result }
+    requires { Tidy active.now × HasRoom effect added.now × (effect.held ≡ active.now.len) }
+    ensures { Grown active.now effect added.now coord result }
 {
     let mut states = active.states;
     for k in 0..effect.added {

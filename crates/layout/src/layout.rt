@@ -26,9 +26,9 @@ pub struct Layout {
 
 // The image's own refusals, then State, then Room; and where nothing is refused, how many layers the table has.
 #[tactic(auto, unfolding(crate::specs::Calls::judged_of, refusal::specs::Verdict::or_else, refusal::specs::Verdict::rule))]
-fn judge(image: &[u8], layout: Layout, room: usize) -> Result<usize, Fault>
-    ensures is { result ≡ judged_layers image.now layout room }
-    ensures ready { IfOk result (λ layers. Ready image.now layers layout.active layout.queue × (64 ≤ room)) }
+fn judge(image: &[u8], layout: &Layout, room: usize) -> Result<usize, Fault>
+    ensures is { result ≡ judged_layers image.now layout.now room }
+    ensures ready { IfOk result (λ layers. Ready image.now layers layout.now.active layout.now.queue × (64 ≤ room)) }
 {
     let layers = check(image)?.layers;
     rule(state_good(image, layers, layout), Refusal::State, 0)?;
@@ -63,7 +63,7 @@ impl Layout {
     pub fn event(self, image: &[u8], event: Event, out: &mut [u8]) -> Answered
         ensures { handed result out.new ≡ event_reply image.now event self out.old }
     {
-        match judge(image, self, out.len()) {
+        match judge(image, &self, out.len()) {
             Err(fault) => Answered {
                 answer: Err(fault),
                 layout: self,
@@ -75,12 +75,20 @@ impl Layout {
                 };
                 if self.queue.queued < Layout::QUEUE {
                     let queue = append(self.queue, event);
-                    return answer_of(tap_released(image, layers, begun, queue, event), queue, out);
+                    return answer_of(
+                        tap_released(image, layers, &begun, &queue, event),
+                        queue,
+                        out,
+                    );
                 }
                 let oldest = self.queue.stacked[0];
-                let queue = append(shift(self.queue), event);
-                let next = overflow(image, layers, begun, queue, oldest);
-                answer_of(tap_released(image, layers, next, queue, event), queue, out)
+                let queue = append(shift(&self.queue), event);
+                let next = overflow(image, layers, &begun, &queue, oldest);
+                answer_of(
+                    tap_released(image, layers, &next, &queue, event),
+                    queue,
+                    out,
+                )
             }
         }
     }
@@ -89,7 +97,7 @@ impl Layout {
     pub fn tick(self, image: &[u8], out: &mut [u8]) -> Answered
         ensures { handed result out.new ≡ tick_reply image.now self out.old }
     {
-        match judge(image, self, out.len()) {
+        match judge(image, &self, out.len()) {
             Err(fault) => Answered {
                 answer: Err(fault),
                 layout: self,
@@ -99,16 +107,16 @@ impl Layout {
                     active: self.active,
                     notes: no_notes(),
                 };
-                let queue = age(self.queue);
+                let queue = age(&self.queue);
                 if let Some(w) = self.active.waiting {
-                    return answer_of(tick_waiting(image, layers, begun, queue, w), queue, out);
+                    return answer_of(tick_waiting(image, layers, &begun, &queue, w), queue, out);
                 }
                 if queue.queued == 0 {
                     return answer_of(begun, queue, out);
                 }
                 let oldest = queue.stacked[0];
-                let rest = shift(queue);
-                answer_of(unstack(image, layers, begun, rest, oldest), rest, out)
+                let rest = shift(&queue);
+                answer_of(unstack(image, layers, &begun, &rest, oldest), rest, out)
             }
         }
     }
@@ -117,7 +125,7 @@ impl Layout {
     pub fn keycodes(self, image: &[u8], out: &mut [u8]) -> Result<Answer, Fault>
         ensures { shown result self out.new ≡ keycodes_reply image.now self out.old }
     {
-        judge(image, self, out.len())?;
+        judge(image, &self, out.len())?;
         let begun = Progress {
             active: self.active,
             notes: no_notes(),

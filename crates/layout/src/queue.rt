@@ -30,21 +30,21 @@ impl Stacked {
 }
 
 // Every queued age grows by 1, stopping at 65,535.
-pub(crate) fn age(queue: Queue) -> Queue
-    requires { Lined queue }
-    ensures { Lined result × (list_in result ≡ older (list_in queue)) }
+pub(crate) fn age(queue: &Queue) -> Queue
+    requires { Lined queue.now }
+    ensures { Lined result × (list_in result ≡ older (list_in queue.now)) }
 {
     let mut stacked = queue.stacked;
     for waits in &mut stacked[..queue.queued] {
         waits.since = waits.since.saturating_add(1);
     }
-    Queue { stacked, ..queue }
+    Queue { stacked, ..*queue }
 }
 
 // The oldest leaves: the others move up, and the last place is unused.
-pub(crate) fn shift(queue: Queue) -> Queue
-    requires { Lined queue × (0 < queue.queued) }
-    ensures { Lined result × (list_in result ≡ drop 1 (list_in queue)) }
+pub(crate) fn shift(queue: &Queue) -> Queue
+    requires { Lined queue.now × (0 < queue.now.queued) }
+    ensures { Lined result × (list_in result ≡ drop 1 (list_in queue.now)) }
 {
     let queued = queue.queued - 1;
     let mut stacked = queue.stacked;
@@ -70,9 +70,9 @@ pub(crate) fn is_release(event: Event, coord: Coord) -> bool
 }
 
 // The age of the first queued release of the coordinates.
-pub(crate) fn find_release(queue: Queue, coord: Coord) -> Option<u16>
-    requires { Lined queue }
-    ensures { result ≡ find coord (list_in queue) }
+pub(crate) fn find_release(queue: &Queue, coord: Coord) -> Option<u16>
+    requires { Lined queue.now }
+    ensures { result ≡ find coord (list_in queue.now) }
 {
     for stacked in &queue.stacked[..queue.queued] {
         if is_release(stacked.event, coord) {

@@ -80,11 +80,12 @@ fn waiting_good(image: &[u8], waiting: Option<WaitingState>) -> bool
 
 // Whether no part of a layout breaks its rule, under an accepted image of so many layers.
 #[tactic(auto, unfolding(crate::specs::State::state_good))]
-pub(crate) fn state_good(image: &[u8], layers: usize, layout: Layout) -> bool
+pub(crate) fn state_good(image: &[u8], layers: usize, layout: &Layout) -> bool
     requires { Sound image.now × (layers ≡ layers_of image.now) }
-    ensures { result ≡ state_good image.now layout }
+    ensures { result ≡ state_good image.now layout.now }
 {
-    let Layout { active, queue } = layout;
+    let active = &layout.active;
+    let queue = &layout.queue;
     if Layout::STATES < active.len || Layout::QUEUE < queue.queued {
         return false;
     }

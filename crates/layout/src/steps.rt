@@ -17,9 +17,9 @@ use event::{Coord, Event};
 use image::{Action, action_at, cell_at};
 
 // The record that a press runs: Trans takes the default layer's cell. Outside the table there is none.
-fn press_as_action(image: &[u8], active: Active, coord: Coord) -> Option<u16>
-    requires { Sound image.now × Tidy active }
-    ensures { PressedTo image.now active coord result }
+fn press_as_action(image: &[u8], active: &Active, coord: Coord) -> Option<u16>
+    requires { Sound image.now × Tidy active.now }
+    ensures { PressedTo image.now active.now coord result }
 {
     let i = coord.i as usize;
     let j = coord.j as usize;
@@ -36,23 +36,23 @@ fn press_as_action(image: &[u8], active: Active, coord: Coord) -> Option<u16>
 pub(crate) fn unstack(
     image: &[u8],
     layers: usize,
-    begun: Progress,
-    queue: Queue,
+    begun: &Progress,
+    queue: &Queue,
     stacked: Stacked,
 ) -> Progress
-    requires { Ready image.now layers begun.active queue }
-    ensures { Steps image.now begun result queue (unstacked image.now stacked) }
+    requires { Ready image.now layers begun.now.active queue.now }
+    ensures { Steps image.now begun.now result queue.now (unstacked image.now stacked) }
 {
     let notes = note_acted(begun.notes, stacked.event);
     match stacked.event {
         Event::Release(i, j) => Progress {
-            active: release(begun.active, Coord { i, j }),
+            active: release(&begun.active, Coord { i, j }),
             notes,
         },
         Event::Press(i, j) => {
             let coord = Coord { i, j };
-            let Some(n) = press_as_action(image, begun.active, coord) else {
-                return Progress { notes, ..begun };
+            let Some(n) = press_as_action(image, &begun.active, coord) else {
+                return Progress { notes, ..*begun };
             };
             let setting = Setting {
                 layers,
@@ -61,9 +61,9 @@ pub(crate) fn unstack(
                 found: find_release(queue, coord),
             };
             let mut added = [0u32; Layout::STATES];
-            let start = effect_of(begun.active, notes);
+            let start = effect_of(&begun.active, notes);
             let effect = do_action(image, start, n, setting, &mut added);
-            after_effect(begun.active, effect, &added, coord)
+            after_effect(&begun.active, effect, &added, coord)
         }
     }
 }
@@ -73,13 +73,13 @@ pub(crate) fn unstack(
 fn becomes(
     image: &[u8],
     layers: usize,
-    begun: Progress,
-    queue: Queue,
+    begun: &Progress,
+    queue: &Queue,
     w: WaitingState,
     way: Way,
 ) -> Progress
-    requires { Ready image.now layers begun.active queue }
-    ensures { Steps image.now begun result queue (becomes_of image.now way w) }
+    requires { Ready image.now layers begun.now.active queue.now }
+    ensures { Steps image.now begun.now result queue.now (becomes_of image.now way w) }
 {
     let setting = Setting {
         layers,
@@ -88,45 +88,45 @@ fn becomes(
         found: find_release(queue, w.coord),
     };
     let mut added = [0u32; Layout::STATES];
-    let start = effect_of(begun.active, begun.notes);
+    let start = effect_of(&begun.active, begun.notes);
     let effect = decide(image, start, w.number, setting, way, &mut added);
-    after_effect(begun.active, effect, &added, w.coord)
+    after_effect(&begun.active, effect, &added, w.coord)
 }
 
 // The oldest event left a full queue: what waits becomes hold, then that event is acted on.
 pub(crate) fn overflow(
     image: &[u8],
     layers: usize,
-    begun: Progress,
-    queue: Queue,
+    begun: &Progress,
+    queue: &Queue,
     oldest: Stacked,
 ) -> Progress
-    requires { Ready image.now layers begun.active queue }
-    ensures { Steps image.now begun result queue (overflow_of (table_of image.now) (queued_of oldest)) }
+    requires { Ready image.now layers begun.now.active queue.now }
+    ensures { Steps image.now begun.now result queue.now (overflow_of (table_of image.now) (queued_of oldest)) }
 {
     let Some(w) = begun.active.waiting else {
         return unstack(image, layers, begun, queue, oldest);
     };
     let held = becomes(image, layers, begun, queue, w, Way::Hold);
-    unstack(image, layers, held, queue, oldest)
+    unstack(image, layers, &held, queue, oldest)
 }
 
 // If the new event releases a waiting key, it becomes tap. The release stays queued.
 pub(crate) fn tap_released(
     image: &[u8],
     layers: usize,
-    begun: Progress,
-    queue: Queue,
+    begun: &Progress,
+    queue: &Queue,
     event: Event,
 ) -> Progress
-    requires { Ready image.now layers begun.active queue }
-    ensures { Steps image.now begun result queue (released_of (table_of image.now) event) }
+    requires { Ready image.now layers begun.now.active queue.now }
+    ensures { Steps image.now begun.now result queue.now (released_of (table_of image.now) event) }
 {
     match begun.active.waiting {
         Some(w) if is_release(event, w.coord) => {
             becomes(image, layers, begun, queue, w, Way::Tap)
         }
-        _ => begun,
+        _ => *begun,
     }
 }
 
@@ -134,19 +134,19 @@ pub(crate) fn tap_released(
 pub(crate) fn tick_waiting(
     image: &[u8],
     layers: usize,
-    begun: Progress,
-    queue: Queue,
+    begun: &Progress,
+    queue: &Queue,
     w: WaitingState,
 ) -> Progress
-    requires { Ready image.now layers begun.active queue }
-    ensures { Steps image.now begun result queue (waited_one image.now w) }
+    requires { Ready image.now layers begun.now.active queue.now }
+    ensures { Steps image.now begun.now result queue.now (waited_one image.now w) }
 {
     let left = w.left.saturating_sub(1);
     if 0 < left {
         let waits = WaitingState { left, ..w };
         return Progress {
-            active: with_waiting(begun.active, Some(waits)),
-            ..begun
+            active: with_waiting(&begun.active, Some(waits)),
+            ..*begun
         };
     }
     becomes(image, layers, begun, queue, w, Way::Hold)

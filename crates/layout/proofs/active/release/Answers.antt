@@ -15,19 +15,19 @@ loop-state-init c = (omega arith, refl, refl)
 
 pub offset_bounds-states-len : goal.offset_bounds-states-len
 offset_bounds-states-len c =
-    let few = length-take c.args.active.len c.args.active.states in
+    let few = length-take c.args.active.now.len c.args.active.now.states in
     omega (arith, c.loop-state.invariant.0, c.requires.few)
 
 pub bounds-states-len : goal.bounds-states-len
 bounds-states-len c =
-    let few = length-take c.args.active.len c.args.active.states in
+    let few = length-take c.args.active.now.len c.args.active.now.states in
     omega (arith, c.loop-state.invariant.0, c.requires.few)
 
 pub loop-state-preserved : goal.loop-state-preserved
 loop-state-preserved c =
     let inv = c.loop-state.invariant in
-    let l = take c.args.active.len c.args.active.states in
-    let few = length-take c.args.active.len c.args.active.states in
+    let l = take c.args.active.now.len c.args.active.now.states in
+    let few = length-take c.args.active.now.len c.args.active.now.states in
     let test = stays c.args.coord in
     let held = rw c.coord.ensures at c.ne.ensures in
     elim c.if-ne.branch [
@@ -44,9 +44,9 @@ loop-state-preserved c =
 pub returns : goal.returns
 unfolding release
 returns c =
-    let l = take c.args.active.len c.args.active.states in
+    let l = take c.args.active.now.len c.args.active.now.states in
     let test = stays c.args.coord in
     let all : take c.loop-state.state-index l ≡ l = take_all l c.loop-state.state-index c.loop-state-test.false in
     let inv = rw all at c.loop-state.invariant in
-    λ img. moves_as img (new_states img c.args.active (keep test l) _ _
-    (omega (arith, keep_length test l, held_length c.args.active c.requires, c.requires.few)) inv.1 inv.2) (λ q. refl)
+    λ img. moves_as img (new_states img c.args.active.now (keep test l) _ _
+    (omega (arith, keep_length test l, held_length c.args.active.now c.requires, c.requires.few)) inv.1 inv.2) (λ q. refl)

@@ -66,4 +66,4 @@ returns-clause-is c =
     rw (e, sym c.state_good.ensures ∙ good, room) (ap (λ (s : Shape). Ok s.layers) a.0)
 
 pub returns-clause-ready : goal.returns-clause-ready
-returns-clause-ready c = ready c.args.image.now c.args.layout c.args.room _ (search rules) (search rules) (sym (returns-clause-is c))
+returns-clause-ready c = ready c.args.image.now c.args.layout.now c.args.room _ (search rules) (search rules) (sym (returns-clause-is c))

@@ -13,12 +13,12 @@ loop-waits-init c = refl
 pub loop-waits-preserved : goal.loop-waits-preserved
 loop-waits-preserved c =
     rw c.saturating_add-waits.ensures
-    (map_on older_in (take c.args.queue.queued c.args.queue.stacked) c.loop-waits.waits-items c.loop-waits.waits-index no_stacked c.loop-waits-test.true c.loop-waits.invariant)
+    (map_on older_in (take c.args.queue.now.queued c.args.queue.now.stacked) c.loop-waits.waits-items c.loop-waits.waits-index no_stacked c.loop-waits-test.true c.loop-waits.invariant)
 
 pub returns : goal.returns
 returns c =
-    let l = take c.args.queue.queued c.args.queue.stacked in
+    let l = take c.args.queue.now.queued c.args.queue.now.stacked in
     let k = c.loop-waits.waits-index in
     let done = c.loop-waits-test.false in
     let rest = drop_of_length-le l {i = k} done in
-    aged c.args.queue c.loop-waits.waits-items c.requires (c.loop-waits.invariant ∙ rw (take_all l k done, rest) (append-nil (map older_in l)))
+    aged c.args.queue.now c.loop-waits.waits-items c.requires (c.loop-waits.invariant ∙ rw (take_all l k done, rest) (append-nil (map older_in l)))

@@ -28,7 +28,7 @@ not_trans img n t (code.HoldTap w k p) b h = refl
 pub returns-in_default : goal.returns-in_default
 unfolding tree_in
 returns-in_default c =
-    λ q. press_outside c.args.image.now c.args.coord (model_of c.args.image.now c.args.active q) _ _ c.current_layer.ensures
+    λ q. press_outside c.args.image.now c.args.coord (model_of c.args.image.now c.args.active.now q) _ _ c.current_layer.ensures
     c.cell_at.ensures c.in_default.is
 
 pub returns-in-Trans : goal.returns-in-Trans
@@ -36,7 +36,7 @@ unfolding tree_in meaning
 returns-in-Trans c =
     let img = c.args.image.now in
     let m = tells img _ c.requires.0 c.action_at.ensures c.in-Trans.is in
-    λ q. ap (tree_in img) c.cell_at-in-Trans.ensures ∙ press_trans img c.args.coord (model_of img c.args.active q) _ _
+    λ q. ap (tree_in img) c.cell_at-in-Trans.ensures ∙ press_trans img c.args.coord (model_of img c.args.active.now q) _ _
     c.current_layer.ensures c.cell_at.ensures _ c.in-Some.is m.is
 
 pub returns-in_default-action_at : goal.returns-in_default-action_at
@@ -44,6 +44,6 @@ unfolding tree_in
 returns-in_default-action_at c =
     let img = c.args.image.now in
     let m = tells img _ {r = c.action_at.result} c.requires.0 c.action_at.ensures refl in
-    λ q. press_own img c.args.coord (model_of img c.args.active q) _ _ c.current_layer.ensures
+    λ q. press_own img c.args.coord (model_of img c.args.active.now q) _ _ c.current_layer.ensures
     c.cell_at.ensures _ c.in-Some.is
     (rw m.is (not_trans img _ (tree img) _ _ c.in_default-action_at.not-Trans))

@@ -12,30 +12,30 @@ use Rattle.layout.proofs.steps.unstack.Goals as goal
 pub returns-in-Release : goal.returns-in-Release
 returns-in-Release c =
     let img = c.args.image.now in
-    let q = list_in c.args.queue in
-    release_acts img c.args.begun.active c.args.begun.notes c.note_acted-notes.result _ q c.args.stacked.event _ _ c.args.stacked.since
+    let q = list_in c.args.queue.now in
+    release_acts img c.args.begun.now.active c.args.begun.now.notes c.note_acted-notes.result _ q c.args.stacked.event _ _ c.args.stacked.since
     c.note_acted-notes.ensures c.in-Release.is
-    (did_moves img c.args.begun.active c.release.result c.note_acted-notes.result q (c.release.ensures img))
+    (did_moves img c.args.begun.now.active c.release.result c.note_acted-notes.result q (c.release.ensures img))
 
 pub returns-in_default : goal.returns-in_default
 unfolding do_action tree_in
 returns-in_default c =
     let img = c.args.image.now in
-    let q = list_in c.args.queue in
+    let q = list_in c.args.queue.now in
     let notes = c.note_acted-notes.result in
-    press_acts img c.args.begun.active c.args.begun.notes notes (record { active = c.args.begun.active; notes = notes }) q c.args.stacked.event _ _
+    press_acts img c.args.begun.now.active c.args.begun.now.notes notes (record { active = c.args.begun.now.active; notes = notes }) q c.args.stacked.event _ _
     c.args.stacked.since c.note_acted-notes.ensures c.args.layers None c.requires.layers c.in-Press.is
     (ap (tree_in img) (sym c.in_default.is) ∙ c.press_as_action.ensures q)
-    (did_nothing img c.args.begun.active notes q c.requires.tidy)
+    (did_nothing img c.args.begun.now.active notes q c.requires.tidy)
 
 pub returns-in-Some : goal.returns-in-Some
 unfolding tree_in
 returns-in-Some c =
     let img = c.args.image.now in
-    let q = list_in c.args.queue in
-    press_acts img c.args.begun.active c.args.begun.notes c.note_acted-notes.result c.after_effect.result q c.args.stacked.event _ _
+    let q = list_in c.args.queue.now in
+    press_acts img c.args.begun.now.active c.args.begun.now.notes c.note_acted-notes.result c.after_effect.result q c.args.stacked.event _ _
     c.args.stacked.since c.note_acted-notes.ensures c.args.layers (Some _) c.requires.layers c.in-Press.is
     (ap (tree_in img) (sym c.in-Some.is) ∙ c.press_as_action.ensures q)
     (rw (← c.find_release.ensures)
-    (did_effect img _ c.args.begun.active c.note_acted-notes.result c.after_effect.result c.effect_of-start.result
+    (did_effect img _ c.args.begun.now.active c.note_acted-notes.result c.after_effect.result c.effect_of-start.result
     c.do_action-effect.result _ _ c.requires.tidy c.effect_of-start.ensures c.do_action-effect.ensures c.after_effect.ensures q))
