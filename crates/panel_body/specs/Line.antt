@@ -1,11 +1,9 @@
 -- What `panel` does with a line and prints for it: document 01, Bench cases. The report goes through a keyboard, as on the
 -- panel itself; `PrintsTheReport` says that this changes nothing that is printed.
 -- Assumes nothing.
-use Rattle.std.specs.Prelude.{ℕ, cond, List, ◌≡◌, eqb, replicate}
+use Rattle.std.specs.Prelude.{ℕ, cond, List, ◌≡◌, eqb, replicate, Option, Some, None}
 use Rattle.codes.specs.Report.{report_of}
 use Rattle.codes.specs.declared.report.KbHidReport.{KbHidReport}
-use Rattle.image.specs.Check.{told_of}
-use Rattle.image.specs.declared.rules.Checked.{Checked}
 use Rattle.keyboard.specs.Hid111.{input}
 use Rattle.keyboard.specs.Keyboard.{reported, fetched}
 use Rattle.keyboard.specs.Idle.{clocked}
@@ -15,10 +13,21 @@ use Rattle.layout.specs.Calls.{Reply, codes_told, event_reply, tick_reply}
 use Rattle.layout.specs.declared.layout.Layout.{Layout}
 use Rattle.text.specs.Text.{saying, hex_of}
 use Rattle.text.specs.Reply.{unread_line, refused_line}
+use Rattle.text.specs.declared.text.Text.{Text}
 use Rattle.panel_line.specs.declared.Line.{Line}
-use Rattle.panel_line.specs.declared.Line.TheVariants.{Key, Tick, Unread}
+use Rattle.panel_line.specs.declared.Line.TheVariants.{Key, Tick}
+use Rattle.refusal.specs.Number.{number_of}
+use Rattle.refusal.specs.declared.Fault.{Fault}
 use Rattle.panel_body.specs.declared.Panel.{Panel}
-use Rattle.panel_body.specs.declared.Done.{Done}
+
+-- the panel after a line, and its answer
+pub record Done : Type 0 where
+  pub panel : Panel
+  pub text : Text
+
+-- a call leaves its panel so, and answers so
+abbrev pub Does : Done → Panel → Text → Type 0
+Does done after text = (after ≡ done.panel) × (text ≡ done.text)
 
 -- a report is set, and what the keyboard answers to Get_Report, Input, is printed
 unfoldable pub report_shown : Layout → Keyboard → KbHidReport → Done
@@ -38,14 +47,14 @@ printed keyboard reply =
 
 -- an event or a tick is given to the layout, with 64 zeros for its codes, and a tick to the idle clock too; a line that cannot
 -- be read changes nothing
-abbrev pub done_for : List ℕ → Panel → Line → Done
-done_for image panel (Key event) = printed panel.keyboard (event_reply image event panel.layout (replicate 64 0))
-done_for image panel Tick = printed (clocked panel.keyboard).keyboard (tick_reply image panel.layout (replicate 64 0))
-done_for image panel Unread = record { panel = panel; text = saying unread_line }
+abbrev pub done_for : List ℕ → Panel → Option Line → Done
+done_for image panel (Some (Key event)) = printed panel.keyboard (event_reply image event panel.layout (replicate 64 0))
+done_for image panel (Some Tick) = printed (clocked panel.keyboard).keyboard (tick_reply image panel.layout (replicate 64 0))
+done_for image panel None = record { panel = panel; text = saying unread_line }
 
--- what is printed for an image that is refused
-abbrev pub refusal_line : Checked → List ℕ
-refusal_line checked = refused_line (told_of checked).number (told_of checked).place
+-- what is printed where something is refused
+abbrev pub refusal_line : Fault → List ℕ
+refusal_line fault = refused_line (number_of fault.refusal) fault.place
 
 -- what is to be printed for a call. Number 0: document 01's report of the codes, in hex; any other is a refusal, and is told
 -- with its place
