@@ -8,12 +8,11 @@ use lib.Dec.{leb}
 use lib.ListN.{length, take}
 use Rattle.lists.specs.Lists.{laid}
 use Rattle.std.specs.Prelude.{Option, Some, None, Result, Ok, Err}
-use Rattle.refusal.specs.Verdict.{Verdict, fine, granted}
+use Rattle.refusal.specs.Verdict.{Verdict, fine}
 use Rattle.refusal.specs.declared.Fault.{Fault}
 use Rattle.refusal.specs.declared.Refusal.TheVariants as refusal
 use Rattle.refusal.proofs.Verdicts.{rule_fine, or_fine}
 use Rattle.image.specs.Check.{Checked, check_of}
-use Rattle.image.specs.Words.{layers_of}
 use Rattle.image.specs.Sound.{Sound}
 use Rattle.image.proofs.Accepted.{accepted}
 use Rattle.layout.specs.Model.{Model, Done}
@@ -22,7 +21,7 @@ use Rattle.layout.specs.Packed.{pad, no_state, no_stacked, states_in, queued_of,
 use Rattle.layout.specs.State.{state_good}
 use Rattle.layout.specs.Notes.{no_notes, noted}
 use Rattle.layout.specs.Calls.{verdict_in, judged_of, answer_of, layout_after, buffered, handed, replied}
-use Rattle.layout.specs.Inside.{Tidy, Lined, Ready, Handed, judged_layers}
+use Rattle.layout.specs.Inside.{Tidy, Lined, Ready, Handed, verdict_of}
 use Rattle.layout.specs.declared.active.State.{State}
 use Rattle.layout.specs.declared.active.Active.{Active}
 use Rattle.layout.specs.declared.active.WaitingState.{WaitingState}
@@ -49,21 +48,19 @@ judged_fine img lay room e =
     (fine_sound (check_of img) img refl a.0, b.0, leb-true 64 room c.0)
 
 -- what a call is judged tells which of the two it is
-granted_ok : (v : Verdict) (a b : ℕ) → granted v a ≡ Ok b → (v ≡ fine) × (b ≡ a)
-granted_ok (Ok u) a b e = (refl, cc)
-granted_ok (Err f) a b e = (cc, cc)
+module _ {A : Type 0} where
+  judged_ok : {v : Verdict} {judged : Result A Fault} {t : A} → verdict_of judged ≡ v → judged ≡ Ok t → v ≡ fine
+  judged_ok j e = sym j ∙ rw e
 
-granted_err : (v : Verdict) (a : ℕ) (f : Fault) → granted v a ≡ Err f → v ≡ Err f
-granted_err (Ok u) a f e = cc
-granted_err (Err g) a f e = cc
+  judged_err : {v : Verdict} {judged : Result A Fault} {f : Fault} → verdict_of judged ≡ v → judged ≡ Err f → v ≡ Err f
+  judged_err j e = sym j ∙ rw e
 
-pub ready : (img : List ℕ) (lay : Layout) (room n : ℕ) → length lay.active.states ≡ 64 → length lay.queue.stacked ≡ 16 → judged_layers img lay room ≡ Ok n
-    → Ready img n lay.active lay.queue × (64 ≤ room)
-ready img lay room n e f j =
-    let both = granted_ok (judged_of img lay room) (layers_of img) n j in
-    let a = judged_fine img lay room both.0 in
+pub ready : (img : List ℕ) (lay : Layout) (room : ℕ) → length lay.active.states ≡ 64 → length lay.queue.stacked ≡ 16 → judged_of img lay room ≡ fine
+    → Ready lay.active lay.queue × (64 ≤ room)
+ready img lay room e f j =
+    let a = judged_fine img lay room j in
     let good = legal img lay a.1 in
-    (record { sound = a.0; layers = both.1; tidy = legal_tidy img lay good e; lined = legal_lined img lay good f }, a.2)
+    (record { tidy = legal_tidy img lay good e; lined = legal_lined img lay good f }, a.2)
 
 map_stacked : (l : List Stacked) → map stacked_of (map queued_of l) ≡ l
 map_stacked [] = refl
@@ -87,15 +84,15 @@ packed img active queue t l =
     }
 
 -- a refused call
-pub call_refused : (img : List ℕ) (lay : Layout) (buffer : List ℕ) (step : Model → Done) {judged : Result ℕ Fault} {fault : Fault}
-    → judged ≡ judged_layers img lay (length buffer) → judged ≡ Err fault
+pub call_refused : (img : List ℕ) (lay : Layout) (buffer : List ℕ) (step : Model → Done) {A : Type 0} {judged : Result A Fault} {fault : Fault}
+    → verdict_of judged ≡ judged_of img lay (length buffer) → judged ≡ Err fault
     → handed (record { answer = Err fault; layout = lay }) buffer ≡ replied img step lay buffer
 unfolding replied answer_of layout_after buffered
-call_refused img lay buffer step j e = rw (granted_err (judged_of img lay (length buffer)) (layers_of img) _ (sym j ∙ e))
+call_refused img lay buffer step j e = rw (judged_err j e)
 
 -- a call that was not
-pub call_finished : (img : List ℕ) (lay : Layout) (end : Progress) (queue : Queue) (step : Model → Done) (buffer after : List ℕ) (a : Answered) {judged : Result ℕ Fault} {n : ℕ}
-    → judged ≡ judged_layers img lay (length buffer) → judged ≡ Ok n → Finished img end queue (step (unpack img lay)) → Handed end queue a buffer after
+pub call_finished : (img : List ℕ) (lay : Layout) (end : Progress) (queue : Queue) (step : Model → Done) (buffer after : List ℕ) (a : Answered) {A : Type 0} {judged : Result A Fault} {t : A}
+    → verdict_of judged ≡ judged_of img lay (length buffer) → judged ≡ Ok t → Finished img end queue (step (unpack img lay)) → Handed end queue a buffer after
     → handed a after ≡ replied img step lay buffer
 unfolding replied answer_of layout_after buffered
 call_finished img lay end queue step buffer after a j o w h =
@@ -105,4 +102,4 @@ call_finished img lay end queue step buffer after a j o w h =
     let answers : a ≡ record { answer = Ok (record { codes = length (codes done.layout.states); notes = noted no_notes done }); layout = pack done.layout } =
     h.0 ∙ (λ i. record { answer = Ok (record { codes = length (codes (held i)); notes = w.1.notes i }); layout = whole i }) in
     let bytes : after ≡ laid (codes done.layout.states) buffer = h.1 ∙ ap (λ (s : List State). laid (codes s) buffer) held in
-    rw (granted_ok (judged_of img lay (length buffer)) (layers_of img) _ (sym j ∙ o)).0 (λ i. handed (answers i) (bytes i))
+    rw (judged_ok j o) (λ i. handed (answers i) (bytes i))

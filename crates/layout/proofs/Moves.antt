@@ -11,7 +11,6 @@ use lib.ListN.{length, drop, get_or}
 use borrow.Author.Tests.{lt-ltb, le-ltb}
 use Rattle.event.specs.declared.Event.{Event}
 use Rattle.event.specs.declared.Coord.{Coord}
-use Rattle.image.specs.Words.{layers_of}
 use Rattle.image.specs.Tree.{Action}
 use Rattle.image.specs.Table.{Table, table_of}
 use Rattle.layout.specs.Model.{Queued, Model, Waiting, Idle, Waits, Acted, Done, age_of, still, marked, after, with_waiting, with_queue}
@@ -140,13 +139,13 @@ module _ (img : List ℕ) (active : Active) (notes : Notes) (way : Way) where
   into_on q end w e d = did_as img d (sym (ap (λ (x : Option WaitingState). into way (table_of img) (waiting_of img x) (model_of img active q)) e))
 
   -- the HoldTap that waits is decided in its setting, and what that left is taken
-  pub becomes_so : (layers : ℕ) (queue : Queue) (w : WaitingState) (found : Option ℕ) (effect last : Effect) (a b : List ℕ) (end : Progress) → Tidy active → layers ≡ layers_of img
+  pub becomes_so : (queue : Queue) (w : WaitingState) (found : Option ℕ) (effect last : Effect) (a b : List ℕ) (end : Progress) → Tidy active
       → found ≡ find w.coord (list_in queue) → effect ≡ effect_of active notes
-      → Settled img w.number (record { layers = layers; coord = w.coord; delay = 0; found = found }) way effect last a b → Grown active last b w.coord end
+      → Settled img w.number (record { coord = w.coord; delay = 0; found = found }) way effect last a b → Grown active last b w.coord end
       → Steps img (record { active = active; notes = notes }) end queue (becomes img way w)
   unfolding into
-  becomes_so layers queue w found effect last a b end t el ef ee d g =
-      did_as img (did_effect img w.coord active notes end effect last a b t ee d g (list_in queue)) (rw (el, ef))
+  becomes_so queue w found effect last a b end t ef ee d g =
+      did_as img (did_effect img w.coord active notes end effect last a b t ee d g (list_in queue)) (rw ef)
 
 -- a tick where something waits: it has a tick less, or becomes hold where none is left
 module _ (img : List ℕ) (active : Active) (notes : Notes) (queue : Queue) (w : WaitingState) (k : ℕ) (ek : k ≡ w.left - 1) where

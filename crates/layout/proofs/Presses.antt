@@ -44,13 +44,13 @@ module _ (img : List ℕ) (c : Coord) (l : Model) (k : ℕ) (cell : Option ℕ) 
 
 -- a press is acted on: that is noted, and its action runs
 module _ (img : List ℕ) (active : Active) (notes noting : Notes) (end : Progress) (q : List Queued) (event : Event) (i j age : ℕ) (en : noting ≡ note_acted notes event) where
-  pub press_acts : (layers : ℕ) (cell : Option ℕ) → layers ≡ layers_of img → event ≡ Press i j → tree_in img cell ≡ pressed (table_of img) (record { i = i; j = j }) (model_of img active q)
-      → Did img noting end q (do_action (tree_in img cell) layers (record { i = i; j = j }) age (find (record { i = i; j = j }) q) (model_of img active q))
+  pub press_acts : (cell : Option ℕ) → event ≡ Press i j → tree_in img cell ≡ pressed (table_of img) (record { i = i; j = j }) (model_of img active q)
+      → Did img noting end q (do_action (tree_in img cell) (layers_of img) (record { i = i; j = j }) age (find (record { i = i; j = j }) q) (model_of img active q))
       → Did img notes end q (act (table_of img) event age (model_of img active q))
   unfolding act
-  press_acts layers cell el ee there d =
+  press_acts cell ee there d =
       subst (λ (e : Event). Did img notes end q (act (table_of img) e age (model_of img active q))) (sym ee)
-      (did_acted img notes noting end q (Press i j) _ (en ∙ ap (note_acted notes) ee) (rw (← there, ← el) d))
+      (did_acted img notes noting end q (Press i j) _ (en ∙ ap (note_acted notes) ee) (rw (← there) d))
 
   -- a release: the states of its key are dropped
   pub release_acts : event ≡ Release i j → Did img noting end q (still (with_states (release (record { i = i; j = j }) (states_in active)) (model_of img active q)))

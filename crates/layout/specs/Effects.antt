@@ -5,7 +5,7 @@ use Rattle.std.specs.Prelude.{◌≡◌, Bool, true, cond, List, ◌++◌, map, 
 use Rattle.lists.specs.Lists.{every}
 use Rattle.codes.specs.Codes.{legal}
 use Rattle.event.specs.declared.Coord.{Coord}
-use Rattle.image.specs.Words.{entries, entries_of}
+use Rattle.image.specs.Words.{entries, entries_of, layers_of}
 use Rattle.image.specs.Tree.{tree}
 use Rattle.layout.specs.Model.{Queued, Model, Done}
 use Rattle.layout.specs.Actions.{push, push_codes, do_action, decided}
@@ -83,9 +83,9 @@ CodesPushed img first count start end before after = (c : Coord) → Effected im
 -- record n has run, and the HoldTap of record n is decided, in a setting
 abbrev pub ActionRan : List ℕ → ℕ → Setting → Effect → Effect → List ℕ → List ℕ → Type 0
 ActionRan img n s start end before after =
-    Effected img s.coord start end before after (do_action (tree img n) s.layers s.coord s.delay s.found)
+    Effected img s.coord start end before after (do_action (tree img n) (layers_of img) s.coord s.delay s.found)
 
 abbrev pub Settled : List ℕ → ℕ → Setting → Way → Effect → Effect → List ℕ → List ℕ → Type 0
 Settled img n s way start end before after =
     Effected img s.coord start end before after
-    (decided way (hold_of (tree img n)) (tap_of (tree img n)) s.layers s.coord s.found)
+    (decided way (hold_of (tree img n)) (tap_of (tree img n)) (layers_of img) s.coord s.found)

@@ -1,18 +1,15 @@
 -- What the private functions promise: how the parts of a layout and the lists that they stand for go together.
 -- Assumes nothing.
-use Rattle.std.specs.Prelude.{◌≡◌, List, ℕ, ◌-◌, ◌≤◌, length, take, Option, Some, Result, Ok}
+use Rattle.std.specs.Prelude.{◌≡◌, List, ℕ, ◌-◌, ◌≤◌, length, take, Option, Some, Result, Ok, Err}
 use Rattle.lists.specs.Lists.{laid}
-use Rattle.refusal.specs.Verdict.{granted}
+use Rattle.refusal.specs.Verdict.{Verdict, fine}
 use Rattle.refusal.specs.declared.Fault.{Fault}
 use Rattle.event.specs.declared.Coord.{Coord}
-use Rattle.image.specs.Words.{layers_of}
-use Rattle.image.specs.Sound.{Sound}
 use Rattle.image.specs.Table.{table_of, tree_in}
 use Rattle.layout.specs.Model.{Queued, Model, Done, age_of, with_waiting}
 use Rattle.layout.specs.Steps.{codes, pressed, act, into, tick_wait}
 use Rattle.layout.specs.Packed.{pad, no_state, no_stacked, states_in, queued_of, list_in, waiting_of, waits_at, model_of}
 use Rattle.layout.specs.Notes.{noted}
-use Rattle.layout.specs.Calls.{judged_of}
 use Rattle.layout.specs.declared.active.Active.{Active}
 use Rattle.layout.specs.declared.active.WaitingState.{WaitingState}
 use Rattle.layout.specs.declared.notes.Notes.{Notes}
@@ -21,7 +18,6 @@ use Rattle.layout.specs.declared.queue.Stacked.{Stacked}
 use Rattle.layout.specs.declared.queue.Queue.{Queue}
 use Rattle.layout.specs.declared.effect.Progress.{Progress}
 use Rattle.layout.specs.declared.answer.Answered.{Answered}
-use Rattle.layout.specs.declared.layout.Layout.{Layout}
 
 -- the count is within the array, and the unused places are zero
 pub record Tidy (active : Active) : Type 0 where
@@ -32,10 +28,8 @@ pub record Lined (queue : Queue) : Type 0 where
   pub few : queue.queued ≤ 16
   pub clean : pad 16 no_stacked (take queue.queued queue.stacked) ≡ queue.stacked
 
--- what a step may rely on: an accepted image, the number of its layers, and both parts in order
-pub record Ready (img : List ℕ) (n : ℕ) (active : Active) (queue : Queue) : Type 0 where
-  pub sound : Sound img
-  pub layers : n ≡ layers_of img
+-- what a step may rely on: both parts in order
+pub record Ready (active : Active) (queue : Queue) : Type 0 where
   pub tidy : Tidy active
   pub lined : Lined queue
 
@@ -67,9 +61,10 @@ becomes img way w l = into way (table_of img) (waiting_of img (Some w)) l
 abbrev pub waited_one : List ℕ → WaitingState → Model → Done
 waited_one img w l = tick_wait (table_of img) (w.left - 1) (with_waiting (waiting_of img (waits_at w.coord (w.left - 1) w.number)) l)
 
--- what a call judges, and how many layers it goes on with
-abbrev pub judged_layers : List ℕ → Layout → ℕ → Result ℕ Fault
-judged_layers img lay room = granted (judged_of img lay room) (layers_of img)
+-- whether a result is refused
+abbrev pub verdict_of : {A : Type 0} → Result A Fault → Verdict
+verdict_of (Ok a) = fine
+verdict_of (Err fault) = Err fault
 
 -- the answer of a call that was not refused, and its buffer
 abbrev pub Handed : Progress → Queue → Answered → List ℕ → List ℕ → Type 0

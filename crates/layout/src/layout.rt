@@ -3,16 +3,15 @@
 ghost use Rattle.std.specs.Prelude.{◌≡◌, ◌≤◌, IfOk};
 ghost use Rattle.layout.specs.Model.{fresh};
 ghost use Rattle.layout.specs.Packed.{pack};
-ghost use Rattle.layout.specs.Calls.{handed, shown, event_reply, tick_reply, keycodes_reply};
-ghost use Rattle.layout.specs.Inside.{Ready, judged_layers};
+ghost use Rattle.layout.specs.Calls.{judged_of, handed, shown, event_reply, tick_reply, keycodes_reply};
+ghost use Rattle.layout.specs.Inside.{Ready, verdict_of};
 
+use super::accepted::Accepted;
 use super::active::{Active, State};
 use super::answer::{Answer, Answered, answer_of};
 use super::effect::Progress;
 use super::notes::no_notes;
 use super::queue::{Queue, Stacked, age, append, shift};
-use super::state::state_good;
-use super::steps::{overflow, tap_released, tick_waiting, unstack};
 use event::Event;
 use image::check;
 use refusal::{Fault, Refusal, rule};
@@ -24,16 +23,17 @@ pub struct Layout {
     pub queue: Queue,
 }
 
-// The image's own refusals, then State, then Room; and where nothing is refused, how many layers the table has.
-#[tactic(auto, unfolding(crate::specs::Calls::judged_of, refusal::specs::Verdict::or_else, refusal::specs::Verdict::rule))]
-fn judge(image: &[u8], layout: &Layout, room: usize) -> Result<usize, Fault>
-    ensures is { result ≡ judged_layers image.now layout.now room }
-    ensures ready { IfOk result (λ layers. Ready image.now layers layout.now.active layout.now.queue × (64 ≤ room)) }
+// The image's own refusals, then State, then Room; and where nothing is refused, the accepted image.
+fn judge<'a>(image: &'a [u8], layout: &Layout, room: usize) -> Result<Accepted<'a>, Fault>
+    ensures is { verdict_of result ≡ judged_of image.now layout.now room }
+    ensures of { IfOk result (λ table. table.image.now ≡ image.now) }
+    ensures ready { IfOk result (λ table. Ready layout.now.active layout.now.queue × (64 ≤ room)) }
 {
     let layers = check(image)?.layers;
-    rule(state_good(image, layers, layout), Refusal::State, 0)?;
+    let table = Accepted { image, layers };
+    rule(table.state_good(layout), Refusal::State, 0)?;
     rule(Layout::STATES <= room, Refusal::Room, 0)?;
-    Ok(layers)
+    Ok(table)
 }
 
 impl Layout {
@@ -68,27 +68,19 @@ impl Layout {
                 answer: Err(fault),
                 layout: self,
             },
-            Ok(layers) => {
+            Ok(table) => {
                 let begun = Progress {
                     active: self.active,
                     notes: no_notes(),
                 };
                 if self.queue.queued < Layout::QUEUE {
                     let queue = append(self.queue, event);
-                    return answer_of(
-                        tap_released(image, layers, &begun, &queue, event),
-                        queue,
-                        out,
-                    );
+                    return answer_of(table.tap_released(&begun, &queue, event), queue, out);
                 }
                 let oldest = self.queue.stacked[0];
                 let queue = append(shift(&self.queue), event);
-                let next = overflow(image, layers, &begun, &queue, oldest);
-                answer_of(
-                    tap_released(image, layers, &next, &queue, event),
-                    queue,
-                    out,
-                )
+                let next = table.overflow(&begun, &queue, oldest);
+                answer_of(table.tap_released(&next, &queue, event), queue, out)
             }
         }
     }
@@ -102,21 +94,21 @@ impl Layout {
                 answer: Err(fault),
                 layout: self,
             },
-            Ok(layers) => {
+            Ok(table) => {
                 let begun = Progress {
                     active: self.active,
                     notes: no_notes(),
                 };
                 let queue = age(&self.queue);
                 if let Some(w) = self.active.waiting {
-                    return answer_of(tick_waiting(image, layers, &begun, &queue, w), queue, out);
+                    return answer_of(table.tick_waiting(&begun, &queue, w), queue, out);
                 }
                 if queue.queued == 0 {
                     return answer_of(begun, queue, out);
                 }
                 let oldest = queue.stacked[0];
                 let rest = shift(&queue);
-                answer_of(unstack(image, layers, &begun, &rest, oldest), rest, out)
+                answer_of(table.unstack(&begun, &rest, oldest), rest, out)
             }
         }
     }

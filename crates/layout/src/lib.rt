@@ -2,6 +2,7 @@
 // Assumes nothing.
 #![tactic(auto)]
 
+mod accepted;
 pub mod action;
 pub mod active;
 pub mod answer;

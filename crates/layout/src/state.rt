@@ -2,11 +2,10 @@
 // Assumes nothing.
 ghost use Rattle.std.specs.Prelude.{◌≡◌, map};
 ghost use Rattle.lists.specs.Lists.{every};
-ghost use Rattle.image.specs.Words.{layers_of};
-ghost use Rattle.image.specs.Sound.{Sound};
 ghost use Rattle.layout.specs.Packed.{queued_of};
 ghost use Rattle.layout.specs.State.{legal_state, falling, waiting_good, unused_state, unused_stacked, state_good};
 
+use super::accepted::Accepted;
 use super::active::{State, WaitingState};
 use super::layout::Layout;
 use super::queue::Stacked;
@@ -64,37 +63,37 @@ fn none_queued(stacked: &[Stacked]) -> bool
     stacked.iter().all(|place| is_unused_event(*place))
 }
 
-// What waits is a HoldTap of the table, with no more ticks left than its timeout.
-fn waiting_good(image: &[u8], waiting: Option<WaitingState>) -> bool
-    requires { Sound image.now }
-    ensures { result ≡ waiting_good image.now waiting }
-{
-    let Some(w) = waiting else {
-        return true;
-    };
-    let Action::HoldTap(timeout, _, _) = action_at(image, w.number as usize) else {
-        return false;
-    };
-    w.left <= timeout
-}
-
-// Whether no part of a layout breaks its rule, under an accepted image of so many layers.
-#[tactic(auto, unfolding(crate::specs::State::state_good))]
-pub(crate) fn state_good(image: &[u8], layers: usize, layout: &Layout) -> bool
-    requires { Sound image.now × (layers ≡ layers_of image.now) }
-    ensures { result ≡ state_good image.now layout.now }
-{
-    let active = &layout.active;
-    let queue = &layout.queue;
-    if Layout::STATES < active.len || Layout::QUEUE < queue.queued {
-        return false;
+impl Accepted<'_> {
+    // What waits is a HoldTap of the table, with no more ticks left than its timeout.
+    fn waiting_good(&self, waiting: Option<WaitingState>) -> bool
+        ensures { result ≡ waiting_good self.now.image.now waiting }
+    {
+        let Some(w) = waiting else {
+            return true;
+        };
+        let Action::HoldTap(timeout, _, _) = action_at(self.image, w.number as usize) else {
+            return false;
+        };
+        w.left <= timeout
     }
-    let (held, unused) = active.states.split_at(active.len);
-    let (queued, empty) = queue.stacked.split_at(queue.queued);
-    all_legal(held)
-        && active.default_layer < layers
-        && ages_fall(queued)
-        && waiting_good(image, active.waiting)
-        && all_unused(unused)
-        && none_queued(empty)
+
+    // Whether no part of a layout breaks its rule.
+    #[tactic(auto, unfolding(crate::specs::State::state_good))]
+    pub(crate) fn state_good(&self, layout: &Layout) -> bool
+        ensures { result ≡ state_good self.now.image.now layout.now }
+    {
+        let active = &layout.active;
+        let queue = &layout.queue;
+        if Layout::STATES < active.len || Layout::QUEUE < queue.queued {
+            return false;
+        }
+        let (held, unused) = active.states.split_at(active.len);
+        let (queued, empty) = queue.stacked.split_at(queue.queued);
+        all_legal(held)
+            && active.default_layer < self.layers
+            && ages_fall(queued)
+            && self.waiting_good(active.waiting)
+            && all_unused(unused)
+            && none_queued(empty)
+    }
 }

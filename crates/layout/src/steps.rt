@@ -1,13 +1,13 @@
 // The steps of a layout that change its states: acting on an event, what waits becoming hold or tap. Document 01, Layout.
 // Assumes nothing.
 ghost use Rattle.std.specs.Prelude.{◌≡◌};
-ghost use Rattle.image.specs.Sound.{Sound};
 ghost use Rattle.image.specs.Table.{table_of};
 ghost use Rattle.layout.specs.Steps.{released as released_of, overflow as overflow_of};
 ghost use Rattle.layout.specs.Packed.{queued_of};
 ghost use Rattle.layout.specs.Inside.{Tidy, Ready, PressedTo, Steps, unstacked, becomes as becomes_of, waited_one};
 
-use super::action::{Setting, decide, do_action};
+use super::accepted::Accepted;
+use super::action::Setting;
 use super::active::{Active, WaitingState, current_layer, release, with_waiting};
 use super::effect::{Progress, after_effect, effect_of};
 use super::layout::Layout;
@@ -16,138 +16,105 @@ use super::queue::{Queue, Stacked, find_release, is_release};
 use event::{Coord, Event};
 use image::{Action, action_at, cell_at};
 
-// The record that a press runs: Trans takes the default layer's cell. Outside the table there is none.
-fn press_as_action(image: &[u8], active: &Active, coord: Coord) -> Option<u16>
-    requires { Sound image.now × Tidy active.now }
-    ensures { PressedTo image.now active.now coord result }
-{
-    let i = coord.i as usize;
-    let j = coord.j as usize;
-    let Some(n) = cell_at(image, current_layer(active), i, j) else {
-        return None;
-    };
-    match action_at(image, n as usize) {
-        Action::Trans => cell_at(image, active.default_layer, i, j),
-        _ => Some(n),
-    }
-}
-
-// An event that left the queue is acted on, with its age.
-pub(crate) fn unstack(
-    image: &[u8],
-    layers: usize,
-    begun: &Progress,
-    queue: &Queue,
-    stacked: Stacked,
-) -> Progress
-    requires { Ready image.now layers begun.now.active queue.now }
-    ensures { Steps image.now begun.now result queue.now (unstacked image.now stacked) }
-{
-    let notes = note_acted(begun.notes, stacked.event);
-    match stacked.event {
-        Event::Release(i, j) => Progress {
-            active: release(&begun.active, Coord { i, j }),
-            notes,
-        },
-        Event::Press(i, j) => {
-            let coord = Coord { i, j };
-            let Some(n) = press_as_action(image, &begun.active, coord) else {
-                return Progress { notes, ..*begun };
-            };
-            let setting = Setting {
-                layers,
-                coord,
-                delay: stacked.since,
-                found: find_release(queue, coord),
-            };
-            let mut added = [0u32; Layout::STATES];
-            let start = effect_of(&begun.active, notes);
-            let effect = do_action(image, start, n, setting, &mut added);
-            after_effect(&begun.active, effect, &added, coord)
-        }
-    }
-}
-
-// What waits becomes hold or tap, which is keyberon's waiting_into_hold and waiting_into_tap: with no delay, and with the
-// first queued release of its key.
-fn becomes(
-    image: &[u8],
-    layers: usize,
-    begun: &Progress,
-    queue: &Queue,
-    w: WaitingState,
-    way: Way,
-) -> Progress
-    requires { Ready image.now layers begun.now.active queue.now }
-    ensures { Steps image.now begun.now result queue.now (becomes_of image.now way w) }
-{
-    let setting = Setting {
-        layers,
-        coord: w.coord,
-        delay: 0,
-        found: find_release(queue, w.coord),
-    };
-    let mut added = [0u32; Layout::STATES];
-    let start = effect_of(&begun.active, begun.notes);
-    let effect = decide(image, start, w.number, setting, way, &mut added);
-    after_effect(&begun.active, effect, &added, w.coord)
-}
-
-// The oldest event left a full queue: what waits becomes hold, then that event is acted on.
-pub(crate) fn overflow(
-    image: &[u8],
-    layers: usize,
-    begun: &Progress,
-    queue: &Queue,
-    oldest: Stacked,
-) -> Progress
-    requires { Ready image.now layers begun.now.active queue.now }
-    ensures { Steps image.now begun.now result queue.now (overflow_of (table_of image.now) (queued_of oldest)) }
-{
-    let Some(w) = begun.active.waiting else {
-        return unstack(image, layers, begun, queue, oldest);
-    };
-    let held = becomes(image, layers, begun, queue, w, Way::Hold);
-    unstack(image, layers, &held, queue, oldest)
-}
-
-// If the new event releases a waiting key, it becomes tap. The release stays queued.
-pub(crate) fn tap_released(
-    image: &[u8],
-    layers: usize,
-    begun: &Progress,
-    queue: &Queue,
-    event: Event,
-) -> Progress
-    requires { Ready image.now layers begun.now.active queue.now }
-    ensures { Steps image.now begun.now result queue.now (released_of (table_of image.now) event) }
-{
-    match begun.active.waiting {
-        Some(w) if is_release(event, w.coord) => {
-            becomes(image, layers, begun, queue, w, Way::Tap)
-        }
-        _ => *begun,
-    }
-}
-
-// A tick while a hold-tap waits: it has a tick less, and becomes hold where none is left.
-pub(crate) fn tick_waiting(
-    image: &[u8],
-    layers: usize,
-    begun: &Progress,
-    queue: &Queue,
-    w: WaitingState,
-) -> Progress
-    requires { Ready image.now layers begun.now.active queue.now }
-    ensures { Steps image.now begun.now result queue.now (waited_one image.now w) }
-{
-    let left = w.left.saturating_sub(1);
-    if 0 < left {
-        let waits = WaitingState { left, ..w };
-        return Progress {
-            active: with_waiting(&begun.active, Some(waits)),
-            ..*begun
+impl Accepted<'_> {
+    // The record that a press runs: Trans takes the default layer's cell. Outside the table there is none.
+    fn press_as_action(&self, active: &Active, coord: Coord) -> Option<u16>
+        requires { Tidy active.now }
+        ensures { PressedTo self.now.image.now active.now coord result }
+    {
+        let i = coord.i as usize;
+        let j = coord.j as usize;
+        let Some(n) = cell_at(self.image, current_layer(active), i, j) else {
+            return None;
         };
+        match action_at(self.image, n as usize) {
+            Action::Trans => cell_at(self.image, active.default_layer, i, j),
+            _ => Some(n),
+        }
     }
-    becomes(image, layers, begun, queue, w, Way::Hold)
+
+    // An event that left the queue is acted on, with its age.
+    pub(crate) fn unstack(&self, begun: &Progress, queue: &Queue, stacked: Stacked) -> Progress
+        requires { Ready begun.now.active queue.now }
+        ensures { Steps self.now.image.now begun.now result queue.now (unstacked self.now.image.now stacked) }
+    {
+        let notes = note_acted(begun.notes, stacked.event);
+        match stacked.event {
+            Event::Release(i, j) => Progress {
+                active: release(&begun.active, Coord { i, j }),
+                notes,
+            },
+            Event::Press(i, j) => {
+                let coord = Coord { i, j };
+                let Some(n) = self.press_as_action(&begun.active, coord) else {
+                    return Progress { notes, ..*begun };
+                };
+                let setting = Setting {
+                    coord,
+                    delay: stacked.since,
+                    found: find_release(queue, coord),
+                };
+                let mut added = [0u32; Layout::STATES];
+                let start = effect_of(&begun.active, notes);
+                let effect = self.do_action(start, n, setting, &mut added);
+                after_effect(&begun.active, effect, &added, coord)
+            }
+        }
+    }
+
+    // What waits becomes hold or tap, which is keyberon's waiting_into_hold and waiting_into_tap: with no delay, and with the
+    // first queued release of its key.
+    fn becomes(&self, begun: &Progress, queue: &Queue, w: WaitingState, way: Way) -> Progress
+        requires { Ready begun.now.active queue.now }
+        ensures { Steps self.now.image.now begun.now result queue.now (becomes_of self.now.image.now way w) }
+    {
+        let setting = Setting {
+            coord: w.coord,
+            delay: 0,
+            found: find_release(queue, w.coord),
+        };
+        let mut added = [0u32; Layout::STATES];
+        let start = effect_of(&begun.active, begun.notes);
+        let effect = self.decide(start, w.number, setting, way, &mut added);
+        after_effect(&begun.active, effect, &added, w.coord)
+    }
+
+    // The oldest event left a full queue: what waits becomes hold, then that event is acted on.
+    pub(crate) fn overflow(&self, begun: &Progress, queue: &Queue, oldest: Stacked) -> Progress
+        requires { Ready begun.now.active queue.now }
+        ensures { Steps self.now.image.now begun.now result queue.now (overflow_of (table_of self.now.image.now) (queued_of oldest)) }
+    {
+        let Some(w) = begun.active.waiting else {
+            return self.unstack(begun, queue, oldest);
+        };
+        let held = self.becomes(begun, queue, w, Way::Hold);
+        self.unstack(&held, queue, oldest)
+    }
+
+    // If the new event releases a waiting key, it becomes tap. The release stays queued.
+    pub(crate) fn tap_released(&self, begun: &Progress, queue: &Queue, event: Event) -> Progress
+        requires { Ready begun.now.active queue.now }
+        ensures { Steps self.now.image.now begun.now result queue.now (released_of (table_of self.now.image.now) event) }
+    {
+        match begun.active.waiting {
+            Some(w) if is_release(event, w.coord) => { self.becomes(begun, queue, w, Way::Tap) }
+            _ => *begun,
+        }
+    }
+
+    // A tick while a hold-tap waits: it has a tick less, and becomes hold where none is left.
+    pub(crate) fn tick_waiting(&self, begun: &Progress, queue: &Queue, w: WaitingState) -> Progress
+        requires { Ready begun.now.active queue.now }
+        ensures { Steps self.now.image.now begun.now result queue.now (waited_one self.now.image.now w) }
+    {
+        let left = w.left.saturating_sub(1);
+        if 0 < left {
+            let waits = WaitingState { left, ..w };
+            return Progress {
+                active: with_waiting(&begun.active, Some(waits)),
+                ..*begun
+            };
+        }
+        self.becomes(begun, queue, w, Way::Hold)
+    }
 }

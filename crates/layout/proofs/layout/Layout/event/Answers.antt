@@ -29,7 +29,7 @@ returns-then-self-lt-QUEUE c =
     (event_goes img lay c.no_notes.result e queue c.tap_released.result
     (appended e (list_in lay.queue)) still c.no_notes.ensures c.append-queue.ensures.0 c.append-queue.ensures.1
     (entered_room T e (list_in lay.queue) (unpack img lay) (omega (arith, long, c.if-self-lt-QUEUE.true)))
-    (did_then img (released T e) (did_nothing img lay.active c.no_notes.result (list_in queue) r.tidy) c.tap_released.ensures))
+    (did_then img (released T e) (did_nothing img lay.active c.no_notes.result (list_in queue) r.tidy) (rw c.in-Ok.ensures.of at c.tap_released.ensures)))
     c.answer_of.ensures
 
 -- there is none: the oldest leaves
@@ -62,5 +62,5 @@ returns-else-self-lt-QUEUE c =
     (c.append-queue-in-Ok.ensures.1 ∙ ap (appended e) c.shift.ensures.1)
     (entered_full T e q (unpack img lay) (queued_of no_stacked) (omega (arith, long, c.if-self-lt-QUEUE.false)) ∙ sym
     (ap (λ (x : Queued). overflow T x (model_of img lay.active (appended e (drop 1 q)))) first))
-    (did_then img (released T e) c.overflow-next.ensures c.tap_released-in-Ok.ensures))
+    (did_then img (released T e) (rw c.in-Ok.ensures.of at c.overflow-next.ensures) (rw c.in-Ok.ensures.of at c.tap_released-in-Ok.ensures)))
     c.answer_of-in-Ok.ensures

@@ -25,7 +25,7 @@ returns-in-Some c =
     call_finished img c.args.self c.tick_waiting.result c.age-queue.result (tick (table_of img)) c.args.out.now _ c.answer_of.result
     c.judge.ensures.is c.in-Ok.is
     (tick_goes img c.args.self c.no_notes.result _ c.age-queue.result c.tick_waiting.result c.no_notes.ensures
-    c.in-Some.is c.age-queue.ensures.0 c.age-queue.ensures.1 c.tick_waiting.ensures)
+    c.in-Some.is c.age-queue.ensures.0 c.age-queue.ensures.1 (rw c.in-Ok.ensures.of at c.tick_waiting.ensures))
     c.answer_of.ensures
 
 -- nothing waits, and nothing is queued
@@ -62,7 +62,7 @@ returns-else-queue-eq0 c =
     call_finished img lay c.unstack.result c.shift-rest.result (tick T) c.args.out.now _ c.answer_of-in-Ok.result c.judge.ensures.is c.in-Ok.is
     (finished_as img (finished img lay c.no_notes.result c.unstack.result c.shift-rest.result (drop 1 q)
     (act T old.event old.since) c.no_notes.ensures c.shift-rest.ensures.0
-    (c.shift-rest.ensures.1 ∙ ap (drop 1) c.age-queue.ensures.1) c.unstack.ensures)
+    (c.shift-rest.ensures.1 ∙ ap (drop 1) c.age-queue.ensures.1) (rw c.in-Ok.ensures.of at c.unstack.ensures))
     (ap (λ (x : Queued). act T x.event (age_of x) (model_of img lay.active (drop 1 q))) first
     ∙ sym (tick_some T (unpack img lay) (ap (waiting_of img) c.in_default.is)
     (omega (arith, ap length c.age-queue.ensures.1)) (queued_of no_stacked))))

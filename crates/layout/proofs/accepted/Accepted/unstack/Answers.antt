@@ -1,4 +1,4 @@
--- `layout::steps::unstack` meets its contract. Assumes nothing.
+-- `layout::accepted::Accepted::unstack` meets its contract. Assumes nothing.
 use mathlib.Core.Path.{sym, ap, ◌∙◌}
 use Rattle.std.specs.Prelude.{Some, None}
 use Rattle.image.specs.Table.{tree_in}
@@ -7,11 +7,11 @@ use Rattle.layout.specs.Packed.{list_in}
 use Rattle.layout.proofs.Moves.{did_nothing, did_moves}
 use Rattle.layout.proofs.Effects.{did_effect}
 use Rattle.layout.proofs.Presses.{press_acts, release_acts}
-use Rattle.layout.proofs.steps.unstack.Goals as goal
+use Rattle.layout.proofs.accepted.Accepted.unstack.Goals as goal
 
 pub returns-in-Release : goal.returns-in-Release
 returns-in-Release c =
-    let img = c.args.image.now in
+    let img = c.args.self.now.image.now in
     let q = list_in c.args.queue.now in
     release_acts img c.args.begun.now.active c.args.begun.now.notes c.note_acted-notes.result _ q c.args.stacked.event _ _ c.args.stacked.since
     c.note_acted-notes.ensures c.in-Release.is
@@ -20,21 +20,21 @@ returns-in-Release c =
 pub returns-in_default : goal.returns-in_default
 unfolding do_action tree_in
 returns-in_default c =
-    let img = c.args.image.now in
+    let img = c.args.self.now.image.now in
     let q = list_in c.args.queue.now in
     let notes = c.note_acted-notes.result in
     press_acts img c.args.begun.now.active c.args.begun.now.notes notes (record { active = c.args.begun.now.active; notes = notes }) q c.args.stacked.event _ _
-    c.args.stacked.since c.note_acted-notes.ensures c.args.layers None c.requires.layers c.in-Press.is
+    c.args.stacked.since c.note_acted-notes.ensures None c.in-Press.is
     (ap (tree_in img) (sym c.in_default.is) ∙ c.press_as_action.ensures q)
     (did_nothing img c.args.begun.now.active notes q c.requires.tidy)
 
 pub returns-in-Some : goal.returns-in-Some
 unfolding tree_in
 returns-in-Some c =
-    let img = c.args.image.now in
+    let img = c.args.self.now.image.now in
     let q = list_in c.args.queue.now in
     press_acts img c.args.begun.now.active c.args.begun.now.notes c.note_acted-notes.result c.after_effect.result q c.args.stacked.event _ _
-    c.args.stacked.since c.note_acted-notes.ensures c.args.layers (Some _) c.requires.layers c.in-Press.is
+    c.args.stacked.since c.note_acted-notes.ensures (Some _) c.in-Press.is
     (ap (tree_in img) (sym c.in-Some.is) ∙ c.press_as_action.ensures q)
     (rw (← c.find_release.ensures)
     (did_effect img _ c.args.begun.now.active c.note_acted-notes.result c.after_effect.result c.effect_of-start.result

@@ -1,4 +1,4 @@
--- `layout::steps::tap_released` meets its contract. Assumes nothing.
+-- `layout::accepted::Accepted::tap_released` meets its contract. Assumes nothing.
 use mathlib.Core.Bool.{false}
 use mathlib.Core.Path.{◌≡◌, sym, ap, ◌∙◌}
 use Rattle.std.specs.Prelude.{Option}
@@ -8,12 +8,12 @@ use Rattle.layout.specs.Packed.{list_in, waiting_of, model_of}
 use Rattle.layout.specs.declared.active.WaitingState.{WaitingState}
 use Rattle.layout.specs.declared.notes.Way.TheVariants.{Tap}
 use Rattle.layout.proofs.Moves.{did_as, did_nothing, into_on, released_yes, released_no}
-use Rattle.layout.proofs.steps.tap_released.Goals as goal
-use Rattle.layout.proofs.steps.tap_released.Goals.{in_default-via-in-Some+else-is_release, in_default-via-in_default}
+use Rattle.layout.proofs.accepted.Accepted.tap_released.Goals as goal
+use Rattle.layout.proofs.accepted.Accepted.tap_released.Goals.{in_default-via-in-Some+else-is_release, in_default-via-in_default}
 
 pub returns-in-Some : goal.returns-in-Some
 returns-in-Some c =
-    let img = c.args.image.now in
+    let img = c.args.self.now.image.now in
     let q = list_in c.args.queue.now in
     did_as img
     (into_on img c.args.begun.now.active c.args.begun.now.notes Tap q c.becomes.result _ c.in-Some.is c.becomes.ensures)
@@ -22,7 +22,7 @@ returns-in-Some c =
 
 pub returns-in_default : goal.returns-in_default
 returns-in_default c =
-    let img = c.args.image.now in
+    let img = c.args.self.now.image.now in
     let q = list_in c.args.queue.now in
     let stays : releases c.args.event (waiting_of img c.args.begun.now.active.waiting) ≡ false =
     elim c.in_default.branch [

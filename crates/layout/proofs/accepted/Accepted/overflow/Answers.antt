@@ -1,22 +1,22 @@
--- `layout::steps::overflow` meets its contract. Assumes nothing.
+-- `layout::accepted::Accepted::overflow` meets its contract. Assumes nothing.
 use Rattle.image.specs.Table.{table_of}
 use Rattle.layout.specs.Packed.{list_in}
 use Rattle.layout.specs.Steps.{act, overflow}
 use Rattle.layout.specs.declared.notes.Way.TheVariants.{Hold}
 use Rattle.layout.proofs.Moves.{did_then, into_none, into_on}
-use Rattle.layout.proofs.steps.overflow.Goals as goal
+use Rattle.layout.proofs.accepted.Accepted.overflow.Goals as goal
 
 pub returns-in_default : goal.returns-in_default
 unfolding overflow
 returns-in_default c =
-    let img = c.args.image.now in
+    let img = c.args.self.now.image.now in
     did_then img (act (table_of img) c.args.oldest.event c.args.oldest.since)
     (into_none img c.args.begun.now.active c.args.begun.now.notes Hold (list_in c.args.queue.now) c.requires.tidy c.in_default.is) c.unstack.ensures
 
 pub returns : goal.returns
 unfolding overflow
 returns c =
-    let img = c.args.image.now in
+    let img = c.args.self.now.image.now in
     did_then img (act (table_of img) c.args.oldest.event c.args.oldest.since)
     (into_on img c.args.begun.now.active c.args.begun.now.notes Hold (list_in c.args.queue.now) c.becomes-held.result _ c.in-Some.is c.becomes-held.ensures)
     c.unstack-2.ensures

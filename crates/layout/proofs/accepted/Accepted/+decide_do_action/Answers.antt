@@ -1,4 +1,4 @@
--- `layout::action::decide` and `layout::action::do_action`, which call each other, meet their contracts: the record number
+-- `layout::accepted::Accepted::decide` and `layout::accepted::Accepted::do_action`, which call each other, meet their contracts: the record number
 -- falls, and each arm does what the tree of its record says. Assumes nothing.
 use Prim.Native.Nat.{ℕ, ◌+◌, ◌-◌, ◌≤◌, ◌<◌}
 use mathlib.Core.List.{List}
@@ -22,8 +22,8 @@ use Rattle.layout.specs.declared.notes.Way.{Way}
 use Rattle.layout.specs.declared.notes.Way.TheVariants.{Tap, Hold}
 use Rattle.std.specs.Prelude.{Option}
 use Rattle.layout.proofs.Effects.{left_start, left_step, left_end, effected_as, effected_then, effected_begun, effected_nothing}
-use Rattle.layout.proofs.action.+decide_do_action.Goals as goal
-use Rattle.layout.proofs.action.+decide_do_action.Goals.{decide-After-settle-quiet}
+use Rattle.layout.proofs.accepted.Accepted.+decide_do_action.Goals as goal
+use Rattle.layout.proofs.accepted.Accepted.+decide_do_action.Goals.{decide-After-settle-quiet}
 
 -- a record that is no HoldTap has no hold and no tap
 no_hold : (img : List ℕ) (n : ℕ) (t : ℕ → Action) (a : Coded) → ((w k p : ℕ) → a ≡ code.HoldTap w k p → ⊥)
@@ -53,91 +53,91 @@ begins_now Hold h p n c f l w = refl
 -- the effect that is settled, with nothing added yet
 settled : (t : ℕ) (c : decide-After-settle-quiet t)
     → let a = c.args in
-    Effected a.image.now a.setting.coord a.effect c.settle-quiet.result a.added.now a.added.now
+    Effected a.self.now.image.now a.setting.coord a.effect c.settle-quiet.result a.added.now a.added.now
     (λ l. marked (Decided a.setting.coord a.way) (still (with_waiting Idle l)))
-settled t c = c.settle-quiet.ensures c.args.image.now c.args.setting.coord c.args.added.now c.requires.1
+settled t c = c.settle-quiet.ensures c.args.self.now.image.now c.args.setting.coord c.args.added.now c.requires
 
 pub decide-returns-in_default : goal.decide-returns-in_default
 unfolding decided do_action
 decide-returns-in_default t c =
     let a = c.args in
-    let img = a.image.now in
-    let m = tells img a.n {r = c.action_at.result} c.requires.0 c.action_at.ensures refl in
+    let img = a.self.now.image.now in
+    let m = tells img a.n {r = c.action_at.result} c.args.self.now.sound c.action_at.ensures refl in
     let none = no_hold img a.n (tree img) c.action_at.result c.in_default.not-HoldTap in
     effected_as img a.setting.coord (settled t (goal.at.decide-returns-in_default t c).After-settle-quiet)
     (λ x q. rw (m.is, none.0, none.1, neither a.way))
 
 pub decide-do_action-requires : goal.decide-do_action-requires
 decide-do_action-requires t c =
-    let m = hold_lower _ _ _ _ _ (tells c.args.image.now c.args.n c.requires.0 c.action_at.ensures c.in-HoldTap.is) in
+    let m = hold_lower _ _ _ _ _ (tells c.args.self.now.image.now c.args.n c.args.self.now.sound c.action_at.ensures c.in-HoldTap.is) in
     let quiet = settled t (goal.at.decide-do_action-requires t c).After-settle-quiet in
-    (omega (arith, m.1, c.decreases), (c.requires.0, quiet.roomy))
+    (omega (arith, m.1, c.decreases), quiet.roomy)
 
 pub decide-do_action-requires-in-Hold : goal.decide-do_action-requires-in-Hold
 decide-do_action-requires-in-Hold t c =
-    let m = hold_lower _ _ _ _ _ (tells c.args.image.now c.args.n c.requires.0 c.action_at.ensures c.in-HoldTap.is) in
+    let m = hold_lower _ _ _ _ _ (tells c.args.self.now.image.now c.args.n c.args.self.now.sound c.action_at.ensures c.in-HoldTap.is) in
     let quiet = settled t (goal.at.decide-do_action-requires-in-Hold t c).After-settle-quiet in
-    (omega (arith, m.0, c.decreases), (c.requires.0, quiet.roomy))
+    (omega (arith, m.0, c.decreases), quiet.roomy)
 
 pub decide-returns-in-Tap : goal.decide-returns-in-Tap
 unfolding decided meaning
 decide-returns-in-Tap t c =
-    let img = c.args.image.now in
+    let img = c.args.self.now.image.now in
     let k = c.args.setting.coord in
-    let m = tells img c.args.n c.requires.0 c.action_at.ensures c.in-HoldTap.is in
+    let m = tells img c.args.n c.args.self.now.sound c.action_at.ensures c.in-HoldTap.is in
     let quiet = settled t (goal.at.decide-returns-in-Tap t c).After-settle-quiet in
     effected_as img k (effected_then img k quiet c.do_action.ensures) (λ x q. rw (c.in-Tap.is, m.is, zero-add))
 
 pub decide-returns-in-Hold : goal.decide-returns-in-Hold
 unfolding decided meaning
 decide-returns-in-Hold t c =
-    let img = c.args.image.now in
+    let img = c.args.self.now.image.now in
     let k = c.args.setting.coord in
-    let m = tells img c.args.n c.requires.0 c.action_at.ensures c.in-HoldTap.is in
+    let m = tells img c.args.n c.args.self.now.sound c.action_at.ensures c.in-HoldTap.is in
     let quiet = settled t (goal.at.decide-returns-in-Hold t c).After-settle-quiet in
     effected_as img k (effected_then img k quiet c.do_action-in-Hold.ensures) (λ x q. rw (c.in-Hold.is, m.is, zero-add))
 
 pub do_action-push_key-requires : goal.do_action-push_key-requires
 do_action-push_key-requires t c =
-    (c.requires.1, key_legal _ _ _ (tells c.args.image.now c.args.n c.requires.0 c.action_at.ensures c.in-KeyCode.is))
+    (c.requires, key_legal _ _ _ (tells c.args.self.now.image.now c.args.n c.args.self.now.sound c.action_at.ensures c.in-KeyCode.is))
 
 pub do_action-push_codes-requires : goal.do_action-push_codes-requires
 unfolding codes_in list_end
 do_action-push_codes-requires t c =
-    let m = tells c.args.image.now c.args.n c.requires.0 c.action_at.ensures c.in-MultipleKeyCodes.is in
-    (c.requires.1, (m.codes, m.listed))
+    let m = tells c.args.self.now.image.now c.args.n c.args.self.now.sound c.action_at.ensures c.in-MultipleKeyCodes.is in
+    (c.requires, (m.codes, m.listed))
 
 pub do_action-loop-at-init : goal.do_action-loop-at-init
 unfolding children_in
 do_action-loop-at-init t c =
     let a = c.args in
-    let m = tells a.image.now a.n c.requires.0 c.action_at.ensures c.in-MultipleActions.is in
+    let m = tells a.self.now.image.now a.n c.args.self.now.sound c.action_at.ensures c.in-MultipleActions.is in
     let all : c.in-MultipleActions.first + c.in-MultipleActions.count - c.in-MultipleActions.first ≡ c.in-MultipleActions.count = omega arith in
-    rw all (m.lower, left_start a.image.now a.setting.coord a.effect _ _ c.requires.1)
+    rw all (m.lower, left_start a.self.now.image.now a.setting.coord a.effect _ _ c.requires)
 
 pub do_action-returns-in_default : goal.do_action-returns-in_default
 unfolding list_end
 do_action-returns-in_default t c =
-    let m = tells c.args.image.now c.args.n c.requires.0 c.action_at.ensures c.in-MultipleActions.is in
+    let m = tells c.args.self.now.image.now c.args.n c.args.self.now.sound c.action_at.ensures c.in-MultipleActions.is in
     let past = entry_not _ _ (sym c.entry_at.ensures ∙ c.in_default.is) in
     absurd (omega (arith, m.listed, past, c.loop-at-test.true))
 
 pub do_action-do_action-out-requires : goal.do_action-do_action-out-requires
 do_action-do_action-out-requires t c =
     let n = c.args.n in
-    let img = c.args.image.now in
+    let img = c.args.self.now.image.now in
     let at = c.loop-at.at in
     let inv = c.loop-at.invariant in
     let left = c.in-MultipleActions.first + c.in-MultipleActions.count - at in
     let some : 0 < left = omega (arith, c.loop-at-test.true) in
     let h = entry_is img at _ (sym c.entry_at.ensures ∙ c.in-Some.is) in
     let low = ltb-true _ n (all_head (λ k. ltb k n) img at left some inv.0) in
-    (omega (arith, low, h.1, c.decreases), (c.requires.0, inv.1.roomy))
+    (omega (arith, low, h.1, c.decreases), inv.1.roomy)
 
 pub do_action-loop-at-preserved : goal.do_action-loop-at-preserved
 unfolding do_actions
 do_action-loop-at-preserved t c =
-    let img = c.args.image.now in
+    let img = c.args.self.now.image.now in
     let at = c.loop-at.at in
     let inv = c.loop-at.invariant in
     let left = c.in-MultipleActions.first + c.in-MultipleActions.count - at in
@@ -153,70 +153,70 @@ do_action-loop-at-preserved t c =
 pub do_action-returns-in-KeyCode : goal.do_action-returns-in-KeyCode
 unfolding do_action meaning
 do_action-returns-in-KeyCode t c =
-    let img = c.args.image.now in
+    let img = c.args.self.now.image.now in
     let k = c.args.setting.coord in
     effected_as img k (c.push_key.ensures img k)
-    (λ x q. rw (tells img c.args.n c.requires.0 c.action_at.ensures c.in-KeyCode.is).is)
+    (λ x q. rw (tells img c.args.n c.args.self.now.sound c.action_at.ensures c.in-KeyCode.is).is)
 
 pub do_action-returns-in-MultipleKeyCodes : goal.do_action-returns-in-MultipleKeyCodes
 unfolding do_action meaning
 do_action-returns-in-MultipleKeyCodes t c =
-    let img = c.args.image.now in
+    let img = c.args.self.now.image.now in
     let k = c.args.setting.coord in
     effected_as img k (c.push_codes.ensures k)
-    (λ x q. rw (tells img c.args.n c.requires.0 c.action_at.ensures c.in-MultipleKeyCodes.is).is)
+    (λ x q. rw (tells img c.args.n c.args.self.now.sound c.action_at.ensures c.in-MultipleKeyCodes.is).is)
 
 pub do_action-returns-after-loop-at : goal.do_action-returns-after-loop-at
 unfolding do_action do_actions meaning
 do_action-returns-after-loop-at t c =
-    let img = c.args.image.now in
+    let img = c.args.self.now.image.now in
     let k = c.args.setting.coord in
     let none : c.in-MultipleActions.first + c.in-MultipleActions.count - c.loop-at.at ≤ 0 = omega (arith, c.loop-at-test.false) in
     let rest = rw (named_none (tree img) img c.loop-at.at (c.in-MultipleActions.first + c.in-MultipleActions.count - c.loop-at.at) none) at c.loop-at.invariant.1 in
     effected_as img k (left_end img k rest (λ l. refl))
-    (λ x q. rw (tells img c.args.n c.requires.0 c.action_at.ensures c.in-MultipleActions.is).is)
+    (λ x q. rw (tells img c.args.n c.args.self.now.sound c.action_at.ensures c.in-MultipleActions.is).is)
 
 pub do_action-returns-in-Layer : goal.do_action-returns-in-Layer
 unfolding do_action meaning
 do_action-returns-in-Layer t c =
-    let img = c.args.image.now in
+    let img = c.args.self.now.image.now in
     let k = c.args.setting.coord in
     effected_as img k (c.push_layer.ensures img k)
-    (λ x q. rw (tells img c.args.n c.requires.0 c.action_at.ensures c.in-Layer.is).is)
+    (λ x q. rw (tells img c.args.n c.args.self.now.sound c.action_at.ensures c.in-Layer.is).is)
 
 pub do_action-returns-in-DefaultLayer : goal.do_action-returns-in-DefaultLayer
 unfolding do_action meaning
 do_action-returns-in-DefaultLayer t c =
-    let img = c.args.image.now in
+    let img = c.args.self.now.image.now in
     let k = c.args.setting.coord in
-    effected_as img k (c.with_default.ensures img k _ c.requires.1)
-    (λ x q. rw (tells img c.args.n c.requires.0 c.action_at.ensures c.in-DefaultLayer.is).is)
+    effected_as img k (c.with_default.ensures img k _ c.requires)
+    (λ x q. rw ((tells img c.args.n c.args.self.now.sound c.action_at.ensures c.in-DefaultLayer.is).is, c.args.self.now.counted))
 
 pub do_action-returns-in-None : goal.do_action-returns-in-None
 unfolding do_action meaning ruling
 do_action-returns-in-None t c =
-    let img = c.args.image.now in
+    let img = c.args.self.now.image.now in
     let k = c.args.setting.coord in
-    let m = tells img c.args.n c.requires.0 c.action_at.ensures c.in-HoldTap.is in
-    effected_as img k (effected_begun img k k (c.wait_on.ensures img k _ c.requires.1))
+    let m = tells img c.args.n c.args.self.now.sound c.action_at.ensures c.in-HoldTap.is in
+    effected_as img k (effected_begun img k k (c.wait_on.ensures img k _ c.requires))
     (λ x q. rw (c.saturating_sub-left.ensures, c.in-None.is, m.is))
 
 pub do_action-returns-in-Some-found : goal.do_action-returns-in-Some-found
 unfolding do_action meaning ruling
 do_action-returns-in-Some-found t c =
-    let img = c.args.image.now in
+    let img = c.args.self.now.image.now in
     let k = c.args.setting.coord in
-    let m = tells img c.args.n c.requires.0 c.action_at.ensures c.in-HoldTap.is in
+    let m = tells img c.args.n c.args.self.now.sound c.action_at.ensures c.in-HoldTap.is in
     effected_as img k (effected_begun img k k c.decide.ensures)
     (λ x q. rw (c.queued_way-way.ensures, c.in-Some-found.is, m.is) (begins_now _ _ _ _ _ _ _ _))
 
 pub do_action-returns-in-NoOp : goal.do_action-returns-in-NoOp
 unfolding do_action meaning
 do_action-returns-in-NoOp t c =
-    let img = c.args.image.now in
+    let img = c.args.self.now.image.now in
     let k = c.args.setting.coord in
-    let nothing = effected_nothing img k c.args.effect _ c.requires.1 in
+    let nothing = effected_nothing img k c.args.effect _ c.requires in
     elim c.in-NoOp.is [
-      | inl is ↦ effected_as img k nothing (λ x q. rw (tells img c.args.n c.requires.0 c.action_at.ensures is).is)
-      | inr is ↦ effected_as img k nothing (λ x q. rw (tells img c.args.n c.requires.0 c.action_at.ensures is).is)
+      | inl is ↦ effected_as img k nothing (λ x q. rw (tells img c.args.n c.args.self.now.sound c.action_at.ensures is).is)
+      | inr is ↦ effected_as img k nothing (λ x q. rw (tells img c.args.n c.args.self.now.sound c.action_at.ensures is).is)
     ]

@@ -1,4 +1,4 @@
--- `layout::steps::press_as_action` meets its contract. Assumes nothing.
+-- `layout::accepted::Accepted::press_as_action` meets its contract. Assumes nothing.
 use Prim.Native.Nat.{ℕ}
 use mathlib.Core.List.{List}
 use mathlib.Core.Path.{◌≡◌, refl, ap, ◌∙◌}
@@ -10,7 +10,7 @@ use Rattle.image.proofs.Accepted.{tells}
 use Rattle.layout.specs.Steps.{or_default}
 use Rattle.layout.specs.Packed.{model_of}
 use Rattle.layout.proofs.Presses.{press_outside, press_trans, press_own}
-use Rattle.layout.proofs.steps.press_as_action.Goals as goal
+use Rattle.layout.proofs.accepted.Accepted.press_as_action.Goals as goal
 
 -- a record that is no Trans is not looked up again
 not_trans : (img : List ℕ) (n : ℕ) (t : ℕ → Action) (a : Coded) (b : Action) → (a ≡ code.Trans → ⊥)
@@ -28,22 +28,22 @@ not_trans img n t (code.HoldTap w k p) b h = refl
 pub returns-in_default : goal.returns-in_default
 unfolding tree_in
 returns-in_default c =
-    λ q. press_outside c.args.image.now c.args.coord (model_of c.args.image.now c.args.active.now q) _ _ c.current_layer.ensures
+    λ q. press_outside c.args.self.now.image.now c.args.coord (model_of c.args.self.now.image.now c.args.active.now q) _ _ c.current_layer.ensures
     c.cell_at.ensures c.in_default.is
 
 pub returns-in-Trans : goal.returns-in-Trans
 unfolding tree_in meaning
 returns-in-Trans c =
-    let img = c.args.image.now in
-    let m = tells img _ c.requires.0 c.action_at.ensures c.in-Trans.is in
+    let img = c.args.self.now.image.now in
+    let m = tells img _ c.args.self.now.sound c.action_at.ensures c.in-Trans.is in
     λ q. ap (tree_in img) c.cell_at-in-Trans.ensures ∙ press_trans img c.args.coord (model_of img c.args.active.now q) _ _
     c.current_layer.ensures c.cell_at.ensures _ c.in-Some.is m.is
 
 pub returns-in_default-action_at : goal.returns-in_default-action_at
 unfolding tree_in
 returns-in_default-action_at c =
-    let img = c.args.image.now in
-    let m = tells img _ {r = c.action_at.result} c.requires.0 c.action_at.ensures refl in
+    let img = c.args.self.now.image.now in
+    let m = tells img _ {r = c.action_at.result} c.args.self.now.sound c.action_at.ensures refl in
     λ q. press_own img c.args.coord (model_of img c.args.active.now q) _ _ c.current_layer.ensures
     c.cell_at.ensures _ c.in-Some.is
     (rw m.is (not_trans img _ (tree img) _ _ c.in_default-action_at.not-Trans))

@@ -1,9 +1,0 @@
--- `layout::steps::becomes` meets its contract. Assumes nothing.
-use Rattle.layout.proofs.Moves.{becomes_so}
-use Rattle.layout.proofs.steps.becomes.Goals as goal
-
-pub returns : goal.returns
-returns c =
-    becomes_so c.args.image.now c.args.begun.now.active c.args.begun.now.notes c.args.way c.args.layers c.args.queue.now c.args.w c.find_release.result
-    c.effect_of-start.result c.decide-effect.result _ _ c.after_effect.result c.requires.tidy c.requires.layers
-    c.find_release.ensures c.effect_of-start.ensures c.decide-effect.ensures c.after_effect.ensures
