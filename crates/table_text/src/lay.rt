@@ -1,5 +1,6 @@
 // The text of an image, laid into a buffer: document 02, W-201. Each function lays bytes from a place on and answers where they end;
-// what is past the buffer's end is left out, so that an empty buffer tells how long the text is.
+// what is past the buffer's end is left out, so that an empty buffer tells how long the text is. The buffer and the place stay two
+// parameters: of a struct that held the `&mut`, each contract would have to say that it is still the same one.
 // Assumes nothing.
 ghost use Rattle.std.specs.Prelude.{◌≡◌, cond, [], ◌∷◌, ◌++◌, ◌+◌, ◌<◌, ◌≤◌, eqb, set};
 ghost use Rattle.image.specs.Words.{words_from};
