@@ -10,41 +10,31 @@ fn twice(layout: Layout, image: &[u8], out: &mut [u8]) -> Layout {
     once.tick(image, out).layout
 }
 
-// One call: 0 and 1 are an event with its row and column, 2 is a tick, 3 the codes alone.
+// One call: an event's three bytes; 2 is a tick, 3 the codes alone.
 fn step(layout: Layout, image: &[u8], call: [u8; 3], out: &mut [u8]) -> Layout {
-    let kind = call[0];
-    let i = call[1];
-    let j = call[2];
-    if kind == 0 {
-        return layout.event(image, Event::Release(i, j), out).layout;
+    if let Ok(event) = Event::try_from(call) {
+        return layout.event(image, event, out).layout;
     }
-    if kind == 1 {
-        return layout.event(image, Event::Press(i, j), out).layout;
+    match call {
+        [2, _, _] => layout.tick(image, out).layout,
+        [3, _, _] => {
+            let _ = layout.keycodes(image, out);
+            layout
+        }
+        _ => twice(layout, image, out),
     }
-    if kind == 2 {
-        return layout.tick(image, out).layout;
-    }
-    if kind == 3 {
-        layout.keycodes(image, out);
-        return layout;
-    }
-    twice(layout, image, out)
 }
 
 fn run(image: &[u8], script: &[u8], out: &mut [u8]) {
     let mut layout = Layout::new();
-    let mut at: usize = 0;
-    while 3 <= script.len() - at {
-        let call = [script[at], script[at + 1], script[at + 2]];
-        layout = step(layout, image, call, out);
-        at += 3;
+    for call in script.chunks_exact(3) {
+        layout = step(layout, image, [call[0], call[1], call[2]], out);
     }
 }
 
 pub fn drive(input: &[u8], out: &mut [u8]) {
     let image = in_use(input, input);
-    let n = image.len();
-    if n <= input.len() {
-        run(image, &input[n..], out);
+    if let Some(script) = input.get(image.len()..) {
+        run(image, script, out);
     }
 }

@@ -7,47 +7,29 @@ mod keys;
 mod reports;
 mod scans;
 
-ghost use Rattle.std.specs.Prelude.{◌+◌, ◌≤◌, length};
+ghost use Rattle.std.specs.Prelude.{◌≤◌, length};
 
 use std::io::{Read, Stdin, Write};
 
 // What each script is stands in the file that runs it.
 fn drive(input: &[u8], out: &mut [u8]) {
-    if input.len() < 1 {
-        return;
-    }
-    let kind = input[0];
-    let script = &input[1..];
-    if kind == 0 {
-        return keys::drive(script, out);
-    }
-    if kind == 1 {
-        return scans::run(script, out);
-    }
-    if kind == 2 {
-        return reports::codes(script, out);
-    }
-    if kind == 3 {
-        reports::run(script, out)
+    match input {
+        [0, script @ ..] => keys::drive(script, out),
+        [1, script @ ..] => scans::run(script, out),
+        [2, script @ ..] => reports::codes(script, out),
+        [3, script @ ..] => reports::run(script, out),
+        _ => {}
     }
 }
 
-// How many bytes a read brings behind the first n; none where it fails, or at the buffer's end.
-fn read_behind(stdin: Stdin, bytes: &mut [u8], n: usize) -> usize
-    requires { n ≤ length bytes.old }
-    ensures { n + result ≤ length bytes.old }
-{
-    let mut from = stdin;
-    from.read(&mut bytes[n..]).unwrap_or(0)
-}
-
-// Reads until the buffer is full, the input ends or a read fails, and says how many bytes came.
-fn read_full(stdin: Stdin, bytes: &mut [u8]) -> usize
+// Reads until the buffer is full, the input ends or a read fails, and says how many bytes came. `console::read_whole` tells of
+// the failure instead, and not how many came before it.
+fn read_full(mut stdin: Stdin, bytes: &mut [u8]) -> usize
     ensures { result ≤ length bytes.old }
 {
     let mut n = 0;
     while n < bytes.len() {
-        let count = read_behind(stdin, bytes, n);
+        let count = stdin.read(&mut bytes[n..]).unwrap_or(0);
         if count == 0 {
             return n;
         }

@@ -8,19 +8,15 @@ fn twice(debouncer: Debouncer, scan: &[u8], out: &mut [u8]) -> Debouncer {
 }
 
 fn step(debouncer: Debouncer, scan: &[u8], out: &mut [u8]) -> Debouncer {
-    if 0 < scan.len() && 1 < scan[0] {
-        return twice(debouncer, scan, out);
+    match scan {
+        [2..=u8::MAX, ..] => twice(debouncer, scan, out),
+        _ => debouncer.events(scan, out).debouncer,
     }
-    debouncer.events(scan, out).debouncer
 }
 
 pub fn run(script: &[u8], out: &mut [u8]) {
-    let up = [0u8; 128];
-    let made = Debouncer::new(8, 16, 5, &up);
-    let mut debouncer = made.debouncer;
-    let mut at: usize = 0;
-    while 128 <= script.len() - at {
-        debouncer = step(debouncer, &script[at..at + 128], out);
-        at += 128;
+    let mut debouncer = Debouncer::new(8, 16, 5, &[0; 128]).debouncer;
+    for scan in script.chunks_exact(128) {
+        debouncer = step(debouncer, scan, out);
     }
 }
