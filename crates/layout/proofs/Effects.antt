@@ -184,16 +184,19 @@ module _ (img : List ℕ) (c : Coord) where
         notes = λ s h q. sym (ap (λ (x : Done). noted t.notes x) (yes s h q));
       }
 
-  pub push_full : (t : Effect) (n : ℕ) (r : HasRoom t.held t.added t.numbers) → 64 ≤ t.held + t.added
-      → Effected img c t (record { default_layer = t.default_layer; held = t.held; numbers = t.numbers; added = t.added; waiting = t.waiting; notes = note_dropped t.notes 1; roomy = r }) (push (state_of c n))
+  -- a state that finds no room leaves the effect as it was, and is counted
+  pub push_full : (t u : Effect) (n : ℕ) (notes : Notes) (r : HasRoom u.held u.added u.numbers) → u ≡ t → notes ≡ note_dropped u.notes 1 → 64 ≤ t.held + t.added
+      → Effected img c t (record { default_layer = u.default_layer; held = u.held; numbers = u.numbers; added = u.added; waiting = u.waiting; notes = notes; roomy = r }) (push (state_of c n))
   unfolding noted_marks
-  push_full t n r ge =
+  push_full t u n notes r e en ge =
       let no : (s : List State) → length s ≡ t.held → (q : List Queued) → push (state_of c n) (effect_in img c t s q) ≡ lost (effect_in img c t s q) =
       λ s h q. push_no (state_of c n) (effect_in img c t s q) (omega (arith, count t s h)) in
       record {
-        held = refl;
-        is = λ s h q. sym (ap (λ (x : Done). x.layout) (no s h q));
-        notes = λ s h q. sym (ap (λ (x : Done). noted t.notes x) (no s h q));
+        held = ap (λ (x : Effect). x.held) e;
+        is = λ s h q.
+            model_of_lem q (ap (λ (x : Effect). x.default_layer) e) (ap (λ (x : Effect). s ++ map (state_of c) (take x.added x.numbers)) e) (ap (λ (x : Effect). waiting_of img x.waiting) e)
+            ∙ sym (ap (λ (x : Done). x.layout) (no s h q));
+        notes = λ s h q. en ∙ ap (λ (x : Effect). note_dropped x.notes 1) e ∙ sym (ap (λ (x : Done). noted t.notes x) (no s h q));
       }
 
   pub push_code : {t u : Effect} (n : ℕ) → n < 256 → Effected img c t u (push (state_of c n)) → Effected img c t u (push (NormalKey n c))

@@ -1,7 +1,7 @@
 -- What the private functions that run an action promise: how its effect, with the numbers of the states that it added, and the
 -- layout that they stand for go together.
 -- Assumes nothing.
-use Rattle.std.specs.Prelude.{◌≡◌, true, cond, List, ◌++◌, map, ℕ, ◌+◌, ◌%◌, ◌≤◌, ltb, length, take}
+use Rattle.std.specs.Prelude.{◌≡◌, Bool, true, false, cond, List, ◌++◌, map, ℕ, ◌+◌, ◌%◌, ◌≤◌, ltb, length, take}
 use Rattle.lists.specs.Lists.{every}
 use Rattle.codes.specs.Codes.{legal}
 use Rattle.event.specs.declared.Coord.{Coord}
@@ -58,6 +58,12 @@ Pushes start end state = (img : List ℕ) (c : Coord) → Effected img c start e
 
 abbrev pub Leaves : Effect → Effect → (List ℕ → Model → Done) → Type 0
 Leaves start end step = (img : List ℕ) (c : Coord) → Effected img c start end (step img)
+
+-- a state is added where there is room, and whether it was kept; where it was not, nothing is changed
+pub record Added (start end : Effect) (number : ℕ) (kept : Bool) : Type 0 where
+  pub told : kept ≡ ltb (start.held + start.added) 64
+  pub yes : kept ≡ true → Pushes start end (λ c. state_of c number)
+  pub no : kept ≡ false → end ≡ start
 
 -- legal codes that the list has; and pushed, one after the other
 abbrev pub Listed : List ℕ → ℕ → ℕ → Type 0

@@ -29,7 +29,7 @@ impl Effect {
     ghost use Rattle.layout.specs.Model.{still, marked, with_base, with_waiting};
     ghost use Rattle.layout.specs.Packed.{waiting_of, waits_at};
     ghost use Rattle.layout.specs.Inside.{Tidy};
-    ghost use Rattle.layout.specs.Effects.{state_of, Begun, Pushes, Leaves};
+    ghost use Rattle.layout.specs.Effects.{state_of, Begun, Added, Pushes, Leaves};
 
     // Before an action runs.
     pub(crate) fn new(active: &Active, notes: Notes) -> Effect
@@ -46,14 +46,23 @@ impl Effect {
         }
     }
 
+    // Adds a state where there is room, and says whether it was kept.
+    fn add(&mut self, number: u32) -> bool
+        ensures { Added self.old self.new number result }
+    {
+        if Layout::STATES <= self.held + self.added {
+            return false;
+        }
+        self.numbers[self.added] = number;
+        self.added += 1;
+        true
+    }
+
     // One state more. A 65th is dropped, and counted.
     fn push(&mut self, number: u32)
         ensures { Pushes self.old self.new (λ c. state_of c number) }
     {
-        if self.held + self.added < Layout::STATES {
-            self.numbers[self.added] = number;
-            self.added += 1;
-        } else {
+        if !self.add(number) {
             self.notes = note_dropped(self.notes);
         }
     }
