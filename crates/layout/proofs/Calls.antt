@@ -27,7 +27,7 @@ use Rattle.layout.specs.declared.active.Active.{Active}
 use Rattle.layout.specs.declared.active.WaitingState.{WaitingState}
 use Rattle.layout.specs.declared.queue.Stacked.{Stacked}
 use Rattle.layout.specs.declared.queue.Queue.{Queue}
-use Rattle.layout.specs.declared.effect.Progress.{Progress}
+use Rattle.layout.specs.declared.progress.Progress.{Progress}
 use Rattle.layout.specs.declared.layout.Layout.{Layout}
 use Rattle.layout.specs.declared.answer.Answered.{Answered}
 use Rattle.layout.proofs.Moves.{Finished}

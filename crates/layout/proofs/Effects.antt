@@ -10,7 +10,7 @@ use Prim.Native.Nat.{ℕ, ◌+◌, ◌≤◌, ◌<◌}
 use native.Mathlib.Numerals.{add-one}
 use native.Mathlib.Omega.{arith}
 use native.Mathlib.Nat.{mod-eq_of_lt, add-mod_left}
-use lib.ListN.{length, take, set, get_or, length-append, length-map, length-set}
+use lib.ListN.{length, take, set, get_or, length-append, length-map}
 use lib.Seq.{length-take-le, take-suc, take-suc-set}
 use borrow.Author.Tests.{lt-ltb, le-ltb}
 use Rattle.event.specs.declared.Coord.{Coord}
@@ -19,7 +19,8 @@ use Rattle.layout.specs.Actions.{push}
 use Rattle.layout.specs.Packed.{pad, no_state, states_in, waiting_of, model_of}
 use Rattle.layout.specs.Notes.{noted, noted_marks, note_decision, note_dropped}
 use Rattle.layout.specs.Inside.{Tidy, Did}
-use Rattle.layout.specs.Effects.{state_of, effect_of, effect_in, HasRoom, Effected, Grown}
+use Rattle.layout.specs.Room.{HasRoom}
+use Rattle.layout.specs.Effects.{state_of, effect_in, Begun as BeginsSo, Effected, Grown}
 use Rattle.layout.specs.declared.active.State.{State}
 use Rattle.layout.specs.declared.active.State.TheVariants.{NormalKey, LayerModifier}
 use Rattle.layout.specs.declared.active.WaitingState.{WaitingState}
@@ -28,7 +29,7 @@ use Rattle.layout.specs.declared.notes.Way.{Way}
 use Rattle.layout.specs.declared.notes.Notes.{Notes}
 use Rattle.layout.specs.declared.active.Active.{Active}
 use Rattle.layout.specs.declared.effect.Effect.{Effect}
-use Rattle.layout.specs.declared.effect.Progress.{Progress}
+use Rattle.layout.specs.declared.progress.Progress.{Progress}
 use Rattle.layout.proofs.Pads.{held_more, take_pad, map-append}
 use Rattle.layout.proofs.Parts.{held_length}
 use Rattle.layout.proofs.Noted.{noted_after}
@@ -54,13 +55,14 @@ grown_more c l arr a h k e lt in-a ea =
     let more : l ++ map (state_of c) (take (k + 1) a) ≡ put ++ (state_of c (get_or a k 0) ∷ []) = rw (add-one, take-suc a k 0 in-a, map-append, append_assoc) in
     rw more (held_more 64 no_state put (state_of c (get_or a k 0)) arr (h + k) lt count ea).1
 
-pub grown : (active : Active) (effect : Effect) (a : List ℕ) (c : Coord) (arr : List State) → Tidy active → HasRoom effect a → effect.held ≡ active.len
-    → arr ≡ pad 64 no_state (take effect.held active.states ++ map (state_of c) (take effect.added a))
-    → Grown active effect a c (record { active = record { default_layer = effect.default_layer; states = arr; len = effect.held + effect.added; waiting = effect.waiting }; notes = effect.notes })
-grown active effect a c arr t r e ea =
-    let put = take effect.held active.states ++ map (state_of c) (take effect.added a) in
+pub grown : (active : Active) (effect : Effect) (c : Coord) (arr : List State) → Tidy active → effect.held ≡ active.len
+    → arr ≡ pad 64 no_state (take effect.held active.states ++ map (state_of c) (take effect.added effect.numbers))
+    → Grown active effect c (record { active = record { default_layer = effect.default_layer; states = arr; len = effect.held + effect.added; waiting = effect.waiting }; notes = effect.notes })
+grown active effect c arr t e ea =
+    let r = effect.roomy in
+    let put = take effect.held active.states ++ map (state_of c) (take effect.added effect.numbers) in
     let first : length (take effect.held active.states) ≡ effect.held = rw e (held_length active t) in
-    let count : effect.held + effect.added ≡ length put = sym (rw (length-append, length-map, first, length-take-le effect.added a (omega (arith, r.few, r.long)))) in
+    let count : effect.held + effect.added ≡ length put = sym (rw (length-append, length-map, first, length-take-le effect.added effect.numbers (omega (arith, r.few, r.long)))) in
     let is : take (effect.held + effect.added) arr ≡ put = rw (count, ea) (take_pad 64 no_state put) in
     record {
       tidy = record { few = r.few; clean = ap (pad 64 no_state) is ∙ sym ea };
@@ -84,137 +86,135 @@ model_of_lem : {b b' : ℕ} {s s' : List State} {w w' : Waiting} (q : List Queue
 model_of_lem q e f g = rw (e, f, g)
 
 module _ (img : List ℕ) (c : Coord) where
-  pub effected_nothing : (t : Effect) (a : List ℕ) → HasRoom t a → Effected img c t t a a still
+  pub effected_nothing : (t : Effect) → Effected img c t t still
   unfolding noted_marks
-  effected_nothing t a r = record { held = refl; roomy = r; is = λ s h q. refl; notes = λ s h q. refl }
+  effected_nothing t = record { held = refl; is = λ s h q. refl; notes = λ s h q. refl }
 
-  pub new_wait : (t : Effect) (a : List ℕ) (w : Option WaitingState) → HasRoom t a
-      → Effected img c t (record { default_layer = t.default_layer; held = t.held; added = t.added; waiting = w; notes = t.notes }) a a (λ m. still (with_waiting (waiting_of img w) m))
+  pub new_wait : (t : Effect) (w : Option WaitingState) (r : HasRoom t.held t.added t.numbers)
+      → Effected img c t (record { default_layer = t.default_layer; held = t.held; numbers = t.numbers; added = t.added; waiting = w; notes = t.notes; roomy = r }) (λ m. still (with_waiting (waiting_of img w) m))
   unfolding noted_marks
-  new_wait t a w r = record { held = refl; roomy = record { few = r.few; long = r.long }; is = λ s h q. refl; notes = λ s h q. refl }
+  new_wait t w r = record { held = refl; is = λ s h q. refl; notes = λ s h q. refl }
 
-  pub new_base : (t : Effect) (a : List ℕ) (v : ℕ) → HasRoom t a
-      → Effected img c t (record { default_layer = v; held = t.held; added = t.added; waiting = t.waiting; notes = t.notes }) a a (λ m. still (with_base v m))
+  pub new_base : (t : Effect) (v : ℕ) (r : HasRoom t.held t.added t.numbers)
+      → Effected img c t (record { default_layer = v; held = t.held; numbers = t.numbers; added = t.added; waiting = t.waiting; notes = t.notes; roomy = r }) (λ m. still (with_base v m))
   unfolding noted_marks
-  new_base t a v r = record { held = refl; roomy = record { few = r.few; long = r.long }; is = λ s h q. refl; notes = λ s h q. refl }
+  new_base t v r = record { held = refl; is = λ s h q. refl; notes = λ s h q. refl }
 
   -- what waits waits no more, and the decision is noted
-  pub settled : (t : Effect) (a : List ℕ) (k : Coord) (way : Way) (notes : Notes) → HasRoom t a → notes ≡ note_decision t.notes k way
-      → Effected img c t (record { default_layer = t.default_layer; held = t.held; added = t.added; waiting = None; notes = notes }) a a (λ m. marked (Decided k way) (still (with_waiting Idle m)))
+  pub settled : (t : Effect) (k : Coord) (way : Way) (notes : Notes) (r : HasRoom t.held t.added t.numbers) → notes ≡ note_decision t.notes k way
+      → Effected img c t (record { default_layer = t.default_layer; held = t.held; numbers = t.numbers; added = t.added; waiting = None; notes = notes; roomy = r }) (λ m. marked (Decided k way) (still (with_waiting Idle m)))
   unfolding noted_marks
-  settled t a k way notes r e = record { held = refl; roomy = record { few = r.few; long = r.long }; is = λ s h q. refl; notes = λ s h q. e }
+  settled t k way notes r e = record { held = refl; is = λ s h q. refl; notes = λ s h q. e }
 
-  pub effected_as : {t u : Effect} {a b : List ℕ} {f g : Model → Done} → Effected img c t u a b f
-      → ((s : List State) (q : List Queued) → f (effect_in img c t a s q) ≡ g (effect_in img c t a s q)) → Effected img c t u a b g
+  pub effected_as : {t u : Effect} {f g : Model → Done} → Effected img c t u f
+      → ((s : List State) (q : List Queued) → f (effect_in img c t s q) ≡ g (effect_in img c t s q)) → Effected img c t u g
   effected_as {t} d e =
       record {
         held = d.held;
-        roomy = d.roomy;
         is = λ s h q. d.is s h q ∙ ap (λ (r : Done). r.layout) (e s q);
         notes = λ s h q. d.notes s h q ∙ ap (λ (r : Done). noted t.notes r) (e s q);
       }
 
-  pub effected_begun : {t u : Effect} {a b : List ℕ} {f : Model → Done} (k : Coord) → Effected img c t u a b f → Effected img c t u a b (λ l. marked (Begun k) (f l))
+  pub effected_begun : {t u : Effect} {f : Model → Done} (k : Coord) → Effected img c t u f → Effected img c t u (λ l. marked (Begun k) (f l))
   unfolding noted_marks
-  effected_begun k d = record { held = d.held; roomy = d.roomy; is = d.is; notes = d.notes }
+  effected_begun k d = record { held = d.held; is = d.is; notes = d.notes }
 
-  pub effected_then : {t u v : Effect} {a b d : List ℕ} {f g : Model → Done} → Effected img c t u a b f → Effected img c u v b d g → Effected img c t v a d (λ l. after (f l) (g (f l).layout))
-  effected_then {t} {u} {v} {a} {b} {d} {f} {g} x y =
+  pub effected_then : {t u v : Effect} {f g : Model → Done} → Effected img c t u f → Effected img c u v g → Effected img c t v (λ l. after (f l) (g (f l).layout))
+  effected_then {t} {u} {v} {f} {g} x y =
       record {
         held = y.held ∙ x.held;
-        roomy = y.roomy;
         is = λ s h q. y.is s (h ∙ sym x.held) q ∙ ap (λ (m : Model). (g m).layout) (x.is s h q);
         notes = λ s h q.
-            let m = f (effect_in img c t a s q) in
+            let m = f (effect_in img c t s q) in
             y.notes s (h ∙ sym x.held) q
             ∙ ap (λ (l : Model). noted u.notes (g l)) (x.is s h q)
             ∙ ap (λ (n : Notes). noted n (g m.layout)) (x.notes s h q)
             ∙ sym (noted_after t.notes m (g m.layout));
       }
 
-  pub record Left (start now : Effect) (before here : List ℕ) (all rest : Model → Done) : Type 0 where
+  pub record Left (start now : Effect) (all rest : Model → Done) : Type 0 where
     pub held : now.held ≡ start.held
-    pub roomy : HasRoom now here
-    pub same : (s : List State) → length s ≡ start.held → (q : List Queued) → (rest (effect_in img c now here s q)).layout ≡ (all (effect_in img c start before s q)).layout
-    pub notes : (s : List State) → length s ≡ start.held → (q : List Queued) → noted now.notes (rest (effect_in img c now here s q)) ≡ noted start.notes (all (effect_in img c start before s q))
+    pub same : (s : List State) → length s ≡ start.held → (q : List Queued) → (rest (effect_in img c now s q)).layout ≡ (all (effect_in img c start s q)).layout
+    pub notes : (s : List State) → length s ≡ start.held → (q : List Queued) → noted now.notes (rest (effect_in img c now s q)) ≡ noted start.notes (all (effect_in img c start s q))
 
-  pub left_start : (t : Effect) (a : List ℕ) (f : Model → Done) → HasRoom t a → Left t t a a f f
-  left_start t a f r = record { held = refl; roomy = r; same = λ s h q. refl; notes = λ s h q. refl }
+  pub left_start : (t : Effect) (f : Model → Done) → Left t t f f
+  left_start t f = record { held = refl; same = λ s h q. refl; notes = λ s h q. refl }
 
-  pub left_step : {o t u : Effect} {z a b : List ℕ} {all rest f rest' : Model → Done} → Left o t z a all rest → Effected img c t u a b f → ((l : Model) → rest l ≡ after (f l) (rest' (f l).layout)) → Left o u z b all rest'
-  left_step {o} {t} {u} {z} {a} {b} {all} {rest} {f} {rest'} w d e =
+  pub left_step : {o t u : Effect} {all rest f rest' : Model → Done} → Left o t all rest → Effected img c t u f → ((l : Model) → rest l ≡ after (f l) (rest' (f l).layout)) → Left o u all rest'
+  left_step {o} {t} {u} {all} {rest} {f} {rest'} w d e =
       record {
         held = d.held ∙ w.held;
-        roomy = d.roomy;
         same = λ s h q.
-            ap (λ (m : Model). (rest' m).layout) (d.is s (h ∙ sym w.held) q) ∙ sym (ap (λ (r : Done). r.layout) (e (effect_in img c t a s q))) ∙ w.same s h q;
+            ap (λ (m : Model). (rest' m).layout) (d.is s (h ∙ sym w.held) q) ∙ sym (ap (λ (r : Done). r.layout) (e (effect_in img c t s q))) ∙ w.same s h q;
         notes = λ s h q.
-            let m = f (effect_in img c t a s q) in
+            let m = f (effect_in img c t s q) in
             ap (λ (l : Model). noted u.notes (rest' l)) (d.is s (h ∙ sym w.held) q)
             ∙ ap (λ (n : Notes). noted n (rest' m.layout)) (d.notes s (h ∙ sym w.held) q)
             ∙ sym (noted_after t.notes m (rest' m.layout))
-            ∙ sym (ap (λ (r : Done). noted t.notes r) (e (effect_in img c t a s q)))
+            ∙ sym (ap (λ (r : Done). noted t.notes r) (e (effect_in img c t s q)))
             ∙ w.notes s h q;
       }
 
-  pub left_end : {o t : Effect} {z a : List ℕ} {all rest : Model → Done} → Left o t z a all rest → ((l : Model) → rest l ≡ still l) → Effected img c o t z a all
+  pub left_end : {o t : Effect} {all rest : Model → Done} → Left o t all rest → ((l : Model) → rest l ≡ still l) → Effected img c o t all
   unfolding noted_marks
-  left_end {o} {t} {z} {a} {all} {rest} w e =
+  left_end {o} {t} {all} {rest} w e =
       record {
         held = w.held;
-        roomy = w.roomy;
-        is = λ s h q. sym (ap (λ (r : Done). r.layout) (e (effect_in img c t a s q))) ∙ w.same s h q;
-        notes = λ s h q. sym (ap (λ (r : Done). noted t.notes r) (e (effect_in img c t a s q))) ∙ w.notes s h q;
+        is = λ s h q. sym (ap (λ (r : Done). r.layout) (e (effect_in img c t s q))) ∙ w.same s h q;
+        notes = λ s h q. sym (ap (λ (r : Done). noted t.notes r) (e (effect_in img c t s q))) ∙ w.notes s h q;
       }
 
   -- how many states there are, those added among them
-  count : (t : Effect) (a : List ℕ) (s : List State) → HasRoom t a → length s ≡ t.held → length (s ++ map (state_of c) (take t.added a)) ≡ t.held + t.added
-  count t a s r h = rw (length-append, length-map, length-take-le t.added a (omega (arith, r.few, r.long)), h)
+  count : (t : Effect) (s : List State) → length s ≡ t.held → length (s ++ map (state_of c) (take t.added t.numbers)) ≡ t.held + t.added
+  count t s h = rw (length-append, length-map, length-take-le t.added t.numbers (omega (arith, t.roomy.few, t.roomy.long)), h)
 
-  pub push_room : (t : Effect) (a : List ℕ) (n : ℕ) → HasRoom t a → t.held + t.added < 64
-      → Effected img c t (record { default_layer = t.default_layer; held = t.held; added = t.added + 1; waiting = t.waiting; notes = t.notes }) a (set a t.added n) (push (state_of c n))
+  pub push_room : (t : Effect) (n : ℕ) (r : HasRoom t.held (t.added + 1) (set t.numbers t.added n)) → t.held + t.added < 64
+      → Effected img c t (record { default_layer = t.default_layer; held = t.held; numbers = set t.numbers t.added n; added = t.added + 1; waiting = t.waiting; notes = t.notes; roomy = r }) (push (state_of c n))
   unfolding noted_marks
-  push_room t a n r lt =
-      let more : take (t.added + 1) (set a t.added n) ≡ take t.added a ++ (n ∷ []) = rw (add-one) (take-suc-set a t.added n (omega (arith, r.long))) in
-      let yes : (s : List State) → length s ≡ t.held → (q : List Queued) → push (state_of c n) (effect_in img c t a s q) ≡ still (with_states ((s ++ map (state_of c) (take t.added a)) ++ (state_of c n ∷ [])) (effect_in img c t a s q)) =
-      λ s h q. push_yes (state_of c n) (effect_in img c t a s q) (omega (arith, count t a s r h)) in
+  push_room t n r lt =
+      let a = t.numbers in
+      let more : take (t.added + 1) (set a t.added n) ≡ take t.added a ++ (n ∷ []) = rw (add-one) (take-suc-set a t.added n (omega (arith, t.roomy.long))) in
+      let yes : (s : List State) → length s ≡ t.held → (q : List Queued) → push (state_of c n) (effect_in img c t s q) ≡ still (with_states ((s ++ map (state_of c) (take t.added a)) ++ (state_of c n ∷ [])) (effect_in img c t s q)) =
+      λ s h q. push_yes (state_of c n) (effect_in img c t s q) (omega (arith, count t s h)) in
       record {
         held = refl;
-        roomy = record { few = omega arith; long = length-set a t.added n ∙ r.long };
         is = λ s h q.
             model_of_lem q refl (ap (λ (x : List ℕ). s ++ map (state_of c) x) more ∙ ap (λ (x : List State). s ++ x) (map-append (state_of c) (take t.added a) (n ∷ [])) ∙ sym (append_assoc s (map (state_of c) (take t.added a)) (state_of c n ∷ []))) refl
             ∙ sym (ap (λ (x : Done). x.layout) (yes s h q));
         notes = λ s h q. sym (ap (λ (x : Done). noted t.notes x) (yes s h q));
       }
 
-  pub push_full : (t : Effect) (a : List ℕ) (n : ℕ) → HasRoom t a → 64 ≤ t.held + t.added
-      → Effected img c t (record { default_layer = t.default_layer; held = t.held; added = t.added; waiting = t.waiting; notes = note_dropped t.notes 1 }) a a (push (state_of c n))
+  -- a state that finds no room leaves the effect as it was, and is counted
+  pub push_full : (t u : Effect) (n : ℕ) (notes : Notes) (r : HasRoom u.held u.added u.numbers) → u ≡ t → notes ≡ note_dropped u.notes 1 → 64 ≤ t.held + t.added
+      → Effected img c t (record { default_layer = u.default_layer; held = u.held; numbers = u.numbers; added = u.added; waiting = u.waiting; notes = notes; roomy = r }) (push (state_of c n))
   unfolding noted_marks
-  push_full t a n r ge =
-      let no : (s : List State) → length s ≡ t.held → (q : List Queued) → push (state_of c n) (effect_in img c t a s q) ≡ lost (effect_in img c t a s q) =
-      λ s h q. push_no (state_of c n) (effect_in img c t a s q) (omega (arith, count t a s r h)) in
+  push_full t u n notes r e en ge =
+      let no : (s : List State) → length s ≡ t.held → (q : List Queued) → push (state_of c n) (effect_in img c t s q) ≡ lost (effect_in img c t s q) =
+      λ s h q. push_no (state_of c n) (effect_in img c t s q) (omega (arith, count t s h)) in
       record {
-        held = refl;
-        roomy = record { few = r.few; long = r.long };
-        is = λ s h q. sym (ap (λ (x : Done). x.layout) (no s h q));
-        notes = λ s h q. sym (ap (λ (x : Done). noted t.notes x) (no s h q));
+        held = ap (λ (x : Effect). x.held) e;
+        is = λ s h q.
+            model_of_lem q (ap (λ (x : Effect). x.default_layer) e) (ap (λ (x : Effect). s ++ map (state_of c) (take x.added x.numbers)) e) (ap (λ (x : Effect). waiting_of img x.waiting) e)
+            ∙ sym (ap (λ (x : Done). x.layout) (no s h q));
+        notes = λ s h q. en ∙ ap (λ (x : Effect). note_dropped x.notes 1) e ∙ sym (ap (λ (x : Done). noted t.notes x) (no s h q));
       }
 
-  pub push_code : {t u : Effect} {a b : List ℕ} (n : ℕ) → n < 256 → Effected img c t u a b (push (state_of c n)) → Effected img c t u a b (push (NormalKey n c))
-  push_code {t} {u} {a} {b} n h d = subst (λ (x : State). Effected img c t u a b (push x)) (code_state c n h) d
+  pub push_code : {t u : Effect} (n : ℕ) → n < 256 → Effected img c t u (push (state_of c n)) → Effected img c t u (push (NormalKey n c))
+  push_code {t} {u} n h d = subst (λ (x : State). Effected img c t u (push x)) (code_state c n h) d
 
-  pub push_layer : {t u : Effect} {a b : List ℕ} (v : ℕ) → v < 65536 → Effected img c t u a b (push (state_of c (65536 + v))) → Effected img c t u a b (push (LayerModifier v c))
-  push_layer {t} {u} {a} {b} v h d = subst (λ (x : State). Effected img c t u a b (push x)) (layer_state c v h) d
+  pub push_layer : {t u : Effect} (v : ℕ) → v < 65536 → Effected img c t u (push (state_of c (65536 + v))) → Effected img c t u (push (LayerModifier v c))
+  push_layer {t} {u} v h d = subst (λ (x : State). Effected img c t u (push x)) (layer_state c v h) d
 
   -- what a call has come to once an action has run comes by the action's step
-  pub did_effect : (active : Active) (notes : Notes) (end : Progress) (effect last : Effect) (a b : List ℕ) {f : Model → Done} → Tidy active → effect ≡ effect_of active notes → Effected img c effect last a b f
-      → Grown active last b c end → (q : List Queued) → Did img notes end q (f (model_of img active q))
-  did_effect active notes end effect last a b {f} t e d g q =
+  pub did_effect : (active : Active) (notes : Notes) (end : Progress) (effect last : Effect) {f : Model → Done} → Tidy active → BeginsSo active notes effect → Effected img c effect last f
+      → Grown active last c end → (q : List Queued) → Did img notes end q (f (model_of img active q))
+  did_effect active notes end effect last {f} t b d g q =
       let s = states_in active in
-      let h : length s ≡ effect.held = (held_length active t ∙ sym (ap (λ (x : Effect). x.held) e)) in
-      let first : effect_in img c effect a s q ≡ model_of img active q = ap (λ (x : Effect). effect_in img c x a s q) e ∙ model_of_lem q refl (append-nil s) refl in
+      let h : length s ≡ effect.held = held_length active t ∙ sym b.held in
+      let first : effect_in img c effect s q ≡ model_of img active q =
+      model_of_lem q b.base (ap (λ (n : ℕ). s ++ map (state_of c) (take n effect.numbers)) b.none ∙ append-nil s) (ap (waiting_of img) b.waiting) in
       record {
         tidy = g.tidy;
         is = model_of_lem q g.base g.states (ap (waiting_of img) g.waiting) ∙ d.is s h q ∙ ap (λ (m : Model). (f m).layout) first;
-        notes = g.notes ∙ d.notes s h q ∙ ap (λ (m : Model). noted effect.notes (f m)) first ∙ ap (λ (x : Effect). noted x.notes (f (model_of img active q))) e;
+        notes = g.notes ∙ d.notes s h q ∙ ap (λ (m : Model). noted effect.notes (f m)) first ∙ ap (λ (n : Notes). noted n (f (model_of img active q))) b.noted;
       }

@@ -19,7 +19,7 @@ use Rattle.layout.specs.Steps.{act, into, into_hold, into_tap, releases, release
 use Rattle.layout.specs.Packed.{list_in, waiting_of, waits_at, model_of, unpack}
 use Rattle.layout.specs.Notes.{no_notes, note_acted, noted, noted_marks}
 use Rattle.layout.specs.Inside.{Tidy, Lined, Moves, Did, Steps, becomes, waited_one}
-use Rattle.layout.specs.Effects.{effect_of, Settled, Grown}
+use Rattle.layout.specs.Effects.{Begun, Settled, Grown}
 use Rattle.layout.specs.declared.active.Active.{Active}
 use Rattle.layout.specs.declared.active.WaitingState.{WaitingState}
 use Rattle.std.specs.Prelude.{Option, Some, None}
@@ -28,7 +28,7 @@ use Rattle.layout.specs.declared.notes.Way.TheVariants.{Hold}
 use Rattle.layout.specs.declared.notes.Notes.{Notes}
 use Rattle.layout.specs.declared.queue.Queue.{Queue}
 use Rattle.layout.specs.declared.effect.Effect.{Effect}
-use Rattle.layout.specs.declared.effect.Progress.{Progress}
+use Rattle.layout.specs.declared.progress.Progress.{Progress}
 use Rattle.layout.specs.declared.layout.Layout.{Layout}
 use Rattle.layout.proofs.Noted.{noted_after}
 use Rattle.layout.proofs.Effects.{did_effect}
@@ -139,13 +139,13 @@ module _ (img : List ℕ) (active : Active) (notes : Notes) (way : Way) where
   into_on q end w e d = did_as img d (sym (ap (λ (x : Option WaitingState). into way (table_of img) (waiting_of img x) (model_of img active q)) e))
 
   -- the HoldTap that waits is decided in its setting, and what that left is taken
-  pub becomes_so : (queue : Queue) (w : WaitingState) (found : Option ℕ) (effect last : Effect) (a b : List ℕ) (end : Progress) → Tidy active
-      → found ≡ find w.coord (list_in queue) → effect ≡ effect_of active notes
-      → Settled img w.number (record { coord = w.coord; delay = 0; found = found }) way effect last a b → Grown active last b w.coord end
+  pub becomes_so : (queue : Queue) (w : WaitingState) (found : Option ℕ) (effect last : Effect) (end : Progress) → Tidy active
+      → found ≡ find w.coord (list_in queue) → Begun active notes effect
+      → Settled img w.number (record { coord = w.coord; delay = 0; found = found }) way effect last → Grown active last w.coord end
       → Steps img (record { active = active; notes = notes }) end queue (becomes img way w)
   unfolding into
-  becomes_so queue w found effect last a b end t ef ee d g =
-      did_as img (did_effect img w.coord active notes end effect last a b t ee d g (list_in queue)) (rw ef)
+  becomes_so queue w found effect last end t ef b d g =
+      did_as img (did_effect img w.coord active notes end effect last t b d g (list_in queue)) (rw ef)
 
 -- a tick where something waits: it has a tick less, or becomes hold where none is left
 module _ (img : List ℕ) (active : Active) (notes : Notes) (queue : Queue) (w : WaitingState) (k : ℕ) (ek : k ≡ w.left - 1) where

@@ -18,7 +18,7 @@ use Rattle.layout.specs.Inside.{Did}
 use Rattle.layout.specs.Notes.{note_acted}
 use Rattle.layout.specs.declared.active.Active.{Active}
 use Rattle.layout.specs.declared.notes.Notes.{Notes}
-use Rattle.layout.specs.declared.effect.Progress.{Progress}
+use Rattle.layout.specs.declared.progress.Progress.{Progress}
 use Rattle.layout.proofs.Moves.{did_acted}
 
 -- the cell of the current layer was looked up

@@ -1,7 +1,7 @@
 -- What the private functions that run an action promise: how its effect, with the numbers of the states that it added, and the
 -- layout that they stand for go together.
 -- Assumes nothing.
-use Rattle.std.specs.Prelude.{◌≡◌, Bool, true, cond, List, ◌++◌, map, ℕ, ◌+◌, ◌%◌, ◌≤◌, ltb, length, take, set}
+use Rattle.std.specs.Prelude.{◌≡◌, Bool, true, false, cond, List, ◌++◌, map, ℕ, ◌+◌, ◌%◌, ◌≤◌, ltb, length, take}
 use Rattle.lists.specs.Lists.{every}
 use Rattle.codes.specs.Codes.{legal}
 use Rattle.event.specs.declared.Coord.{Coord}
@@ -18,7 +18,7 @@ use Rattle.layout.specs.declared.active.Active.{Active}
 use Rattle.layout.specs.declared.notes.Notes.{Notes}
 use Rattle.layout.specs.declared.notes.Way.{Way}
 use Rattle.layout.specs.declared.effect.Effect.{Effect}
-use Rattle.layout.specs.declared.effect.Progress.{Progress}
+use Rattle.layout.specs.declared.progress.Progress.{Progress}
 use Rattle.layout.specs.declared.action.Setting.{Setting}
 
 -- the state that a number stands for, at the coordinates c: a code, or 65,536 and a layer
@@ -26,66 +26,56 @@ unfoldable pub state_of : Coord → ℕ → State
 state_of c n = cond (ltb n 65536) (NormalKey (n % 256) c) (LayerModifier (n % 65536) c)
 
 -- before an action runs
-abbrev pub effect_of : Active → Notes → Effect
-effect_of active notes =
-    record {
-      default_layer = active.default_layer;
-      held = active.len;
-      added = 0;
-      waiting = active.waiting;
-      notes = notes;
-    }
+pub record Begun (active : Active) (notes : Notes) (effect : Effect) : Type 0 where
+  pub base : effect.default_layer ≡ active.default_layer
+  pub held : effect.held ≡ active.len
+  pub none : effect.added ≡ 0
+  pub waiting : effect.waiting ≡ active.waiting
+  pub noted : effect.notes ≡ notes
 
 -- the layout that an effect stands for, where s are the states held before, and q is the queue
-abbrev pub effect_in : List ℕ → Coord → Effect → List ℕ → List State → List Queued → Model
-effect_in img c effect added s q =
-    record { base = effect.default_layer; states = s ++ map (state_of c) (take effect.added added); waiting = waiting_of img effect.waiting; queue = q }
-
--- the states, those added among them, are within the capacity
-pub record HasRoom (effect : Effect) (added : List ℕ) : Type 0 where
-  pub few : effect.held + effect.added ≤ 64
-  pub long : length added ≡ 64
-
--- a state is added where there is room, and whether it was kept
-abbrev pub Added : Effect → ℕ → Bool → List ℕ → List ℕ → Type 0
-Added effect number kept before after =
-    (kept ≡ ltb (effect.held + effect.added) 64) × (after ≡ cond kept (set before effect.added number) before)
+abbrev pub effect_in : List ℕ → Coord → Effect → List State → List Queued → Model
+effect_in img c effect s q =
+    record { base = effect.default_layer; states = s ++ map (state_of c) (take effect.added effect.numbers); waiting = waiting_of img effect.waiting; queue = q }
 
 -- one effect comes from another by a step, whatever states were held and whatever is queued
-pub record Effected (img : List ℕ) (c : Coord) (start end : Effect) (before after : List ℕ) (step : Model → Done) : Type 0 where
+pub record Effected (img : List ℕ) (c : Coord) (start end : Effect) (step : Model → Done) : Type 0 where
   pub held : end.held ≡ start.held
-  pub roomy : HasRoom end after
-  pub is : (s : List State) → length s ≡ start.held → (q : List Queued) → effect_in img c end after s q ≡ (step (effect_in img c start before s q)).layout
-  pub notes : (s : List State) → length s ≡ start.held → (q : List Queued) → end.notes ≡ noted start.notes (step (effect_in img c start before s q))
+  pub is : (s : List State) → length s ≡ start.held → (q : List Queued) → effect_in img c end s q ≡ (step (effect_in img c start s q)).layout
+  pub notes : (s : List State) → length s ≡ start.held → (q : List Queued) → end.notes ≡ noted start.notes (step (effect_in img c start s q))
 
 -- what a call has come to, with what an effect left
-pub record Grown (active : Active) (effect : Effect) (added : List ℕ) (c : Coord) (end : Progress) : Type 0 where
+pub record Grown (active : Active) (effect : Effect) (c : Coord) (end : Progress) : Type 0 where
   pub tidy : Tidy end.active
   pub base : end.active.default_layer ≡ effect.default_layer
-  pub states : states_in end.active ≡ states_in active ++ map (state_of c) (take effect.added added)
+  pub states : states_in end.active ≡ states_in active ++ map (state_of c) (take effect.added effect.numbers)
   pub waiting : end.active.waiting ≡ effect.waiting
   pub notes : end.notes ≡ effect.notes
 
 -- one state is pushed; and a step that adds no state
-abbrev pub Pushes : Effect → Effect → List ℕ → List ℕ → (Coord → State) → Type 0
-Pushes start end before after state = (img : List ℕ) (c : Coord) → Effected img c start end before after (push (state c))
+abbrev pub Pushes : Effect → Effect → (Coord → State) → Type 0
+Pushes start end state = (img : List ℕ) (c : Coord) → Effected img c start end (push (state c))
 
 abbrev pub Leaves : Effect → Effect → (List ℕ → Model → Done) → Type 0
-Leaves start end step = (img : List ℕ) (c : Coord) (added : List ℕ) → HasRoom start added → Effected img c start end added added (step img)
+Leaves start end step = (img : List ℕ) (c : Coord) → Effected img c start end (step img)
+
+-- a state is added where there is room, and whether it was kept; where it was not, nothing is changed
+pub record Added (start end : Effect) (number : ℕ) (kept : Bool) : Type 0 where
+  pub told : kept ≡ ltb (start.held + start.added) 64
+  pub yes : kept ≡ true → Pushes start end (λ c. state_of c number)
+  pub no : kept ≡ false → end ≡ start
 
 -- legal codes that the list has; and pushed, one after the other
 abbrev pub Listed : List ℕ → ℕ → ℕ → Type 0
 Listed img first count = (every legal (entries img first count) ≡ true) × (first + count ≤ entries_of img)
 
-abbrev pub CodesPushed : List ℕ → ℕ → ℕ → Effect → Effect → List ℕ → List ℕ → Type 0
-CodesPushed img first count start end before after = (c : Coord) → Effected img c start end before after (push_codes (entries img first count) c)
+abbrev pub CodesPushed : List ℕ → ℕ → ℕ → Effect → Effect → Type 0
+CodesPushed img first count start end = (c : Coord) → Effected img c start end (push_codes (entries img first count) c)
 
 -- record n has run, and the HoldTap of record n is decided, in a setting
-abbrev pub ActionRan : List ℕ → ℕ → Setting → Effect → Effect → List ℕ → List ℕ → Type 0
-ActionRan img n s start end before after =
-    Effected img s.coord start end before after (do_action (tree img n) (layers_of img) s.coord s.delay s.found)
+abbrev pub ActionRan : List ℕ → ℕ → Setting → Effect → Effect → Type 0
+ActionRan img n s start end = Effected img s.coord start end (do_action (tree img n) (layers_of img) s.coord s.delay s.found)
 
-abbrev pub Settled : List ℕ → ℕ → Setting → Way → Effect → Effect → List ℕ → List ℕ → Type 0
-Settled img n s way start end before after =
-    Effected img s.coord start end before after
-    (decided way (hold_of (tree img n)) (tap_of (tree img n)) (layers_of img) s.coord s.found)
+abbrev pub Settled : List ℕ → ℕ → Setting → Way → Effect → Effect → Type 0
+Settled img n s way start end =
+    Effected img s.coord start end (decided way (hold_of (tree img n)) (tap_of (tree img n)) (layers_of img) s.coord s.found)

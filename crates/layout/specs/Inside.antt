@@ -16,7 +16,7 @@ use Rattle.layout.specs.declared.notes.Notes.{Notes}
 use Rattle.layout.specs.declared.notes.Way.{Way}
 use Rattle.layout.specs.declared.queue.Stacked.{Stacked}
 use Rattle.layout.specs.declared.queue.Queue.{Queue}
-use Rattle.layout.specs.declared.effect.Progress.{Progress}
+use Rattle.layout.specs.declared.progress.Progress.{Progress}
 use Rattle.layout.specs.declared.answer.Answered.{Answered}
 
 -- the count is within the array, and the unused places are zero

@@ -9,4 +9,5 @@ pub mod Reach
 pub mod Limits
 pub mod Asserted
 pub mod Inside
+pub mod Room
 pub mod Effects

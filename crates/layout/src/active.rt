@@ -26,6 +26,7 @@ pub struct WaitingState {
 }
 
 // The default layer, the states held, the places past their number zero, and what waits.
+// Callers hand it in as they like, and a call answers State where it is out of order (`state_good`): so no invariant.
 #[derive(Clone, Copy, PartialEq, Eq, Debug)]
 pub struct Active {
     pub default_layer: usize,

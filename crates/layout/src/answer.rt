@@ -4,9 +4,9 @@ ghost use Rattle.std.specs.Prelude.{◌≡◌, ◌≤◌, length};
 ghost use Rattle.layout.specs.Inside.{Tidy, Handed};
 
 use super::active::State;
-use super::effect::Progress;
 use super::layout::Layout;
 use super::notes::Notes;
+use super::progress::Progress;
 use super::queue::Queue;
 use refusal::Fault;
 

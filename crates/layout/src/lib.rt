@@ -9,6 +9,7 @@ pub mod answer;
 pub mod effect;
 pub mod layout;
 pub mod notes;
+mod progress;
 pub mod queue;
 pub mod state;
 pub mod steps;

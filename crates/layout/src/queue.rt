@@ -15,6 +15,7 @@ pub struct Stacked {
     pub since: u16,
 }
 
+// Callers hand it in as they like, and a call answers State where it is out of order (`state_good`): so no invariant.
 #[derive(Clone, Copy, PartialEq, Eq, Debug)]
 pub struct Queue {
     pub stacked: [Stacked; Layout::QUEUE],

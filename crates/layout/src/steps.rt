@@ -9,9 +9,9 @@ ghost use Rattle.layout.specs.Inside.{Tidy, Ready, PressedTo, Steps, unstacked, 
 use super::accepted::Accepted;
 use super::action::Setting;
 use super::active::{Active, WaitingState, current_layer, release, with_waiting};
-use super::effect::{Progress, after_effect, effect_of};
-use super::layout::Layout;
+use super::effect::Effect;
 use super::notes::{Way, note_acted};
+use super::progress::{Progress, after_effect};
 use super::queue::{Queue, Stacked, find_release, is_release};
 use event::{Coord, Event};
 use image::{Action, action_at, cell_at};
@@ -54,10 +54,9 @@ impl Accepted<'_> {
                     delay: stacked.since,
                     found: find_release(queue, coord),
                 };
-                let mut added = [0u32; Layout::STATES];
-                let start = effect_of(&begun.active, notes);
-                let effect = self.do_action(start, n, setting, &mut added);
-                after_effect(&begun.active, effect, &added, coord)
+                let mut effect = Effect::new(&begun.active, notes);
+                self.do_action(&mut effect, n, setting);
+                after_effect(&begun.active, &effect, coord)
             }
         }
     }
@@ -73,10 +72,9 @@ impl Accepted<'_> {
             delay: 0,
             found: find_release(queue, w.coord),
         };
-        let mut added = [0u32; Layout::STATES];
-        let start = effect_of(&begun.active, begun.notes);
-        let effect = self.decide(start, w.number, setting, way, &mut added);
-        after_effect(&begun.active, effect, &added, w.coord)
+        let mut effect = Effect::new(&begun.active, begun.notes);
+        self.decide(&mut effect, w.number, setting, way);
+        after_effect(&begun.active, &effect, w.coord)
     }
 
     // The oldest event left a full queue: what waits becomes hold, then that event is acted on.

@@ -12,10 +12,10 @@ use Rattle.layout.proofs.action.push_codes.Goals as goal
 pub loop-at-init : goal.loop-at-init
 loop-at-init c =
     let all : c.args.first + c.args.count - c.args.first ≡ c.args.count = omega arith in
-    rw all (c.requires.1.0, λ k. left_start c.args.image.now k c.args.effect _ _ c.requires.0)
+    rw all (c.requires.0, λ k. left_start c.args.image.now k c.args.effect.now _)
 
 pub returns-in_default : goal.returns-in_default
-returns-in_default c = absurd (omega (arith, entry_not _ _ (sym c.entry_at.ensures ∙ c.in_default.is), c.requires.1.1, c.loop-at-test.true))
+returns-in_default c = absurd (omega (arith, entry_not _ _ (sym c.entry_at.ensures ∙ c.in_default.is), c.requires.1, c.loop-at-test.true))
 
 pub loop-at-preserved : goal.loop-at-preserved
 unfolding push_codes
@@ -30,7 +30,7 @@ loop-at-preserved c =
     let step = entries_step img at left some in
     rw (← next) (
       all_tail legal img at left some inv.0,
-      λ k. left_step img k (rw step at (inv.1 k)) (c.push_key-out.ensures img k) (λ l. rw h.1),
+      λ k. left_step img k (rw step at (inv.1 k)) (c.push_key.ensures img k) (λ l. rw h.1),
     )
 
 pub returns : goal.returns
@@ -39,12 +39,10 @@ returns c =
     let none : c.args.first + c.args.count - c.loop-at.at ≡ 0 = omega (arith, c.loop-at-test.false) in
     λ k. left_end c.args.image.now k (c.loop-at.invariant.1 k) (λ l. rw none)
 
-pub push_key-out-requires : goal.push_key-out-requires
-push_key-out-requires c =
+pub push_key-requires : goal.push_key-requires
+push_key-requires c =
     let img = c.args.image.now in
     let at = c.loop-at.at in
     let some : 0 < c.args.first + c.args.count - at = omega (arith, c.loop-at-test.true) in
-    let h = entry_is img at _ (sym c.entry_at.ensures ∙ c.in-Some.is) in (
-      (c.loop-at.invariant.1 (record { i = 0; j = 0 })).roomy,
-      ap legal h.1 ∙ all_head legal img at (c.args.first + c.args.count - at) some c.loop-at.invariant.0,
-    )
+    let h = entry_is img at _ (sym c.entry_at.ensures ∙ c.in-Some.is) in
+    ap legal h.1 ∙ all_head legal img at (c.args.first + c.args.count - at) some c.loop-at.invariant.0

@@ -14,4 +14,4 @@ abbrev pub invariant-loop-at : goal.invariant-loop-at
 invariant-loop-at l =
     let left = entries l.image l.at (l.at-end - l.at) in
     (every legal left ≡ true)
-    × ((c : Coord) → Left l.image c l.initial.out l.out l.initial.added l.added (push_codes (entries l.image l.first l.count) c) (push_codes left c))
+    × ((c : Coord) → Left l.image c l.initial.effect l.effect (push_codes (entries l.image l.first l.count) c) (push_codes left c))

@@ -14,16 +14,14 @@ use Rattle.image.specs.Tree.{Action, NoOp, tree, meaning}
 use Rattle.image.specs.declared.record.Action.{Action as Coded}
 use Rattle.image.specs.declared.record.Action.TheVariants as code
 use Rattle.image.proofs.Accepted.{tells, hold_lower, key_legal, entry_is, entry_not, all_head, all_tail, named_step, named_none}
-use Rattle.layout.specs.Model.{Model, Idle, Begun, Decided, still, marked, with_waiting}
+use Rattle.layout.specs.Model.{Model, Idle, Begun, marked, with_waiting}
 use Rattle.layout.specs.Actions.{do_action, do_actions, decided, chosen, begins, AtOnce, ruling}
 use Rattle.layout.specs.Packed.{hold_of, tap_of}
-use Rattle.layout.specs.Effects.{Effected}
 use Rattle.layout.specs.declared.notes.Way.{Way}
 use Rattle.layout.specs.declared.notes.Way.TheVariants.{Tap, Hold}
 use Rattle.std.specs.Prelude.{Option}
 use Rattle.layout.proofs.Effects.{left_start, left_step, left_end, effected_as, effected_then, effected_begun, effected_nothing}
 use Rattle.layout.proofs.accepted.Accepted.+decide_do_action.Goals as goal
-use Rattle.layout.proofs.accepted.Accepted.+decide_do_action.Goals.{decide-After-settle-quiet}
 
 -- a record that is no HoldTap has no hold and no tap
 no_hold : (img : List ℕ) (n : ℕ) (t : ℕ → Action) (a : Coded) → ((w k p : ℕ) → a ≡ code.HoldTap w k p → ⊥)
@@ -50,34 +48,25 @@ unfolding decided
 begins_now Tap h p n c f l w = refl
 begins_now Hold h p n c f l w = refl
 
--- the effect that is settled, with nothing added yet
-settled : (t : ℕ) (c : decide-After-settle-quiet t)
-    → let a = c.args in
-    Effected a.self.now.image.now a.setting.coord a.effect c.settle-quiet.result a.added.now a.added.now
-    (λ l. marked (Decided a.setting.coord a.way) (still (with_waiting Idle l)))
-settled t c = c.settle-quiet.ensures c.args.self.now.image.now c.args.setting.coord c.args.added.now c.requires
-
 pub decide-returns-in_default : goal.decide-returns-in_default
 unfolding decided do_action
 decide-returns-in_default t c =
     let a = c.args in
     let img = a.self.now.image.now in
-    let m = tells img a.n {r = c.action_at.result} c.args.self.now.sound c.action_at.ensures refl in
+    let m = tells img a.n {r = c.action_at.result} a.self.now.sound c.action_at.ensures refl in
     let none = no_hold img a.n (tree img) c.action_at.result c.in_default.not-HoldTap in
-    effected_as img a.setting.coord (settled t (goal.at.decide-returns-in_default t c).After-settle-quiet)
+    effected_as img a.setting.coord (c.settle.ensures img a.setting.coord)
     (λ x q. rw (m.is, none.0, none.1, neither a.way))
 
 pub decide-do_action-requires : goal.decide-do_action-requires
 decide-do_action-requires t c =
     let m = hold_lower _ _ _ _ _ (tells c.args.self.now.image.now c.args.n c.args.self.now.sound c.action_at.ensures c.in-HoldTap.is) in
-    let quiet = settled t (goal.at.decide-do_action-requires t c).After-settle-quiet in
-    (omega (arith, m.1, c.decreases), quiet.roomy)
+    omega (arith, m.1, c.decreases)
 
 pub decide-do_action-requires-in-Hold : goal.decide-do_action-requires-in-Hold
 decide-do_action-requires-in-Hold t c =
     let m = hold_lower _ _ _ _ _ (tells c.args.self.now.image.now c.args.n c.args.self.now.sound c.action_at.ensures c.in-HoldTap.is) in
-    let quiet = settled t (goal.at.decide-do_action-requires-in-Hold t c).After-settle-quiet in
-    (omega (arith, m.0, c.decreases), quiet.roomy)
+    omega (arith, m.0, c.decreases)
 
 pub decide-returns-in-Tap : goal.decide-returns-in-Tap
 unfolding decided meaning
@@ -85,8 +74,7 @@ decide-returns-in-Tap t c =
     let img = c.args.self.now.image.now in
     let k = c.args.setting.coord in
     let m = tells img c.args.n c.args.self.now.sound c.action_at.ensures c.in-HoldTap.is in
-    let quiet = settled t (goal.at.decide-returns-in-Tap t c).After-settle-quiet in
-    effected_as img k (effected_then img k quiet c.do_action.ensures) (λ x q. rw (c.in-Tap.is, m.is, zero-add))
+    effected_as img k (effected_then img k (c.settle.ensures img k) c.do_action.ensures) (λ x q. rw (c.in-Tap.is, m.is, zero-add))
 
 pub decide-returns-in-Hold : goal.decide-returns-in-Hold
 unfolding decided meaning
@@ -94,18 +82,17 @@ decide-returns-in-Hold t c =
     let img = c.args.self.now.image.now in
     let k = c.args.setting.coord in
     let m = tells img c.args.n c.args.self.now.sound c.action_at.ensures c.in-HoldTap.is in
-    let quiet = settled t (goal.at.decide-returns-in-Hold t c).After-settle-quiet in
-    effected_as img k (effected_then img k quiet c.do_action-in-Hold.ensures) (λ x q. rw (c.in-Hold.is, m.is, zero-add))
+    effected_as img k (effected_then img k (c.settle.ensures img k) c.do_action-in-Hold.ensures) (λ x q. rw (c.in-Hold.is, m.is, zero-add))
 
 pub do_action-push_key-requires : goal.do_action-push_key-requires
 do_action-push_key-requires t c =
-    (c.requires, key_legal _ _ _ (tells c.args.self.now.image.now c.args.n c.args.self.now.sound c.action_at.ensures c.in-KeyCode.is))
+    key_legal _ _ _ (tells c.args.self.now.image.now c.args.n c.args.self.now.sound c.action_at.ensures c.in-KeyCode.is)
 
 pub do_action-push_codes-requires : goal.do_action-push_codes-requires
 unfolding codes_in list_end
 do_action-push_codes-requires t c =
     let m = tells c.args.self.now.image.now c.args.n c.args.self.now.sound c.action_at.ensures c.in-MultipleKeyCodes.is in
-    (c.requires, (m.codes, m.listed))
+    (m.codes, m.listed)
 
 pub do_action-loop-at-init : goal.do_action-loop-at-init
 unfolding children_in
@@ -113,7 +100,7 @@ do_action-loop-at-init t c =
     let a = c.args in
     let m = tells a.self.now.image.now a.n c.args.self.now.sound c.action_at.ensures c.in-MultipleActions.is in
     let all : c.in-MultipleActions.first + c.in-MultipleActions.count - c.in-MultipleActions.first ≡ c.in-MultipleActions.count = omega arith in
-    rw all (m.lower, left_start a.self.now.image.now a.setting.coord a.effect _ _ c.requires)
+    rw all (m.lower, left_start a.self.now.image.now a.setting.coord a.effect.now _)
 
 pub do_action-returns-in_default : goal.do_action-returns-in_default
 unfolding list_end
@@ -122,8 +109,8 @@ do_action-returns-in_default t c =
     let past = entry_not _ _ (sym c.entry_at.ensures ∙ c.in_default.is) in
     absurd (omega (arith, m.listed, past, c.loop-at-test.true))
 
-pub do_action-do_action-out-requires : goal.do_action-do_action-out-requires
-do_action-do_action-out-requires t c =
+pub do_action-do_action-requires : goal.do_action-do_action-requires
+do_action-do_action-requires t c =
     let n = c.args.n in
     let img = c.args.self.now.image.now in
     let at = c.loop-at.at in
@@ -132,7 +119,7 @@ do_action-do_action-out-requires t c =
     let some : 0 < left = omega (arith, c.loop-at-test.true) in
     let h = entry_is img at _ (sym c.entry_at.ensures ∙ c.in-Some.is) in
     let low = ltb-true _ n (all_head (λ k. ltb k n) img at left some inv.0) in
-    (omega (arith, low, h.1, c.decreases), inv.1.roomy)
+    omega (arith, low, h.1, c.decreases)
 
 pub do_action-loop-at-preserved : goal.do_action-loop-at-preserved
 unfolding do_actions
@@ -147,7 +134,7 @@ do_action-loop-at-preserved t c =
     let rest = rw (named_step (tree img) img at left some) at inv.1 in
     rw (← next) (
       all_tail (λ k. ltb k c.args.n) img at left some inv.0,
-      left_step img c.args.setting.coord rest c.do_action-out.ensures (λ l. rw h.1),
+      left_step img c.args.setting.coord rest c.do_action.ensures (λ l. rw h.1),
     )
 
 pub do_action-returns-in-KeyCode : goal.do_action-returns-in-KeyCode
@@ -189,7 +176,7 @@ unfolding do_action meaning
 do_action-returns-in-DefaultLayer t c =
     let img = c.args.self.now.image.now in
     let k = c.args.setting.coord in
-    effected_as img k (c.with_default.ensures img k _ c.requires)
+    effected_as img k (c.with_default.ensures img k)
     (λ x q. rw ((tells img c.args.n c.args.self.now.sound c.action_at.ensures c.in-DefaultLayer.is).is, c.args.self.now.counted))
 
 pub do_action-returns-in-None : goal.do_action-returns-in-None
@@ -198,7 +185,7 @@ do_action-returns-in-None t c =
     let img = c.args.self.now.image.now in
     let k = c.args.setting.coord in
     let m = tells img c.args.n c.args.self.now.sound c.action_at.ensures c.in-HoldTap.is in
-    effected_as img k (effected_begun img k k (c.wait_on.ensures img k _ c.requires))
+    effected_as img k (effected_begun img k k (c.wait_on.ensures img k))
     (λ x q. rw (c.saturating_sub-left.ensures, c.in-None.is, m.is))
 
 pub do_action-returns-in-Some-found : goal.do_action-returns-in-Some-found
@@ -215,7 +202,7 @@ unfolding do_action meaning
 do_action-returns-in-NoOp t c =
     let img = c.args.self.now.image.now in
     let k = c.args.setting.coord in
-    let nothing = effected_nothing img k c.args.effect _ c.requires in
+    let nothing = effected_nothing img k c.args.effect.now in
     elim c.in-NoOp.is [
       | inl is ↦ effected_as img k nothing (λ x q. rw (tells img c.args.n c.args.self.now.sound c.action_at.ensures is).is)
       | inr is ↦ effected_as img k nothing (λ x q. rw (tells img c.args.n c.args.self.now.sound c.action_at.ensures is).is)

@@ -20,6 +20,6 @@ invariant-do_action-loop-at l =
     let s = l.setting in
     let left = l.at-end - l.at in
     (every (λ k. ltb k l.n) (entries l.self.image.now l.at left) ≡ true)
-    × Left l.self.image.now s.coord l.initial.out l.out l.initial.added l.added
+    × Left l.self.image.now s.coord l.initial.effect l.effect
     (do_actions (named (tree l.self.image.now) (entries l.self.image.now l.first l.count)) (layers_of l.self.image.now) s.coord s.delay s.found)
     (do_actions (named (tree l.self.image.now) (entries l.self.image.now l.at left)) (layers_of l.self.image.now) s.coord s.delay s.found)

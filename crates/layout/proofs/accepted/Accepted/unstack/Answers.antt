@@ -37,5 +37,5 @@ returns-in-Some c =
     c.args.stacked.since c.note_acted-notes.ensures (Some _) c.in-Press.is
     (ap (tree_in img) (sym c.in-Some.is) ∙ c.press_as_action.ensures q)
     (rw (← c.find_release.ensures)
-    (did_effect img _ c.args.begun.now.active c.note_acted-notes.result c.after_effect.result c.effect_of-start.result
-    c.do_action-effect.result _ _ c.requires.tidy c.effect_of-start.ensures c.do_action-effect.ensures c.after_effect.ensures q))
+    (did_effect img _ c.args.begun.now.active c.note_acted-notes.result c.after_effect.result _ _ c.requires.tidy
+    c.new-effect.ensures c.do_action.ensures c.after_effect.ensures q))

@@ -5,7 +5,7 @@ use Rattle.std.specs.Prelude.{Err}
 use Rattle.layout.specs.Model.{still}
 use Rattle.layout.specs.Packed.{list_in}
 use Rattle.layout.specs.Calls.{Reply}
-use Rattle.layout.specs.declared.effect.Progress.{Progress}
+use Rattle.layout.specs.declared.progress.Progress.{Progress}
 use Rattle.layout.proofs.Moves.{did_nothing, finished}
 use Rattle.layout.proofs.Calls.{call_refused, call_finished}
 use Rattle.layout.proofs.layout.Layout.keycodes.Goals as goal

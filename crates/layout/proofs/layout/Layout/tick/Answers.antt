@@ -10,7 +10,7 @@ use Rattle.layout.specs.Model.{Queued, age_of, still}
 use Rattle.layout.specs.Steps.{act, older, tick}
 use Rattle.layout.specs.Packed.{list_in, waiting_of, queued_of, model_of, unpack, no_stacked}
 use Rattle.layout.proofs.Parts.{list_length}
-use Rattle.layout.specs.declared.effect.Progress.{Progress}
+use Rattle.layout.specs.declared.progress.Progress.{Progress}
 use Rattle.layout.proofs.Moves.{did_nothing, finished, finished_as, tick_none, tick_some, tick_goes}
 use Rattle.layout.proofs.Calls.{call_refused, call_finished}
 use Rattle.layout.proofs.layout.Layout.tick.Goals as goal

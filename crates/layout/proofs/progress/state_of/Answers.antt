@@ -1,7 +1,7 @@
--- `layout::effect::state_of` meets its contract. Assumes nothing.
+-- `layout::progress::state_of` meets its contract. Assumes nothing.
 use borrow.Author.Tests.{lt-ltb, le-ltb}
 use Rattle.layout.specs.Effects.{state_of}
-use Rattle.layout.proofs.effect.state_of.Goals as goal
+use Rattle.layout.proofs.progress.state_of.Goals as goal
 
 pub returns-then-number-lt65536 : goal.returns-then-number-lt65536
 unfolding state_of

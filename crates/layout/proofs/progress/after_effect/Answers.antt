@@ -1,0 +1,26 @@
+-- `layout::progress::after_effect` meets its contract. Assumes nothing.
+use mathlib.Core.Path.{◌≡◌}
+use native.Mathlib.Omega.{arith}
+use lib.ListN.{length, take}
+use Rattle.layout.proofs.Effects.{grown_none, grown_more, grown}
+use Rattle.layout.proofs.Parts.{held_length}
+use Rattle.layout.proofs.progress.after_effect.Goals as goal
+
+pub loop-k-init : goal.loop-k-init
+loop-k-init c = grown_none c.args.active.now c.args.effect.now.held c.requires.0 c.requires.1
+
+pub loop-k-preserved : goal.loop-k-preserved
+loop-k-preserved c =
+    let few = c.args.effect.now.roomy.few in
+    let long = c.args.effect.now.roomy.long in
+    let held = c.args.effect.now.held in
+    let first : length (take held c.args.active.now.states) ≡ held = rw c.requires.1 (held_length c.args.active.now c.requires.0) in
+    rw c.state_of.ensures (grown_more c.args.coord
+    (take held c.args.active.now.states) c.loop-k.states c.args.effect.now.numbers held c.loop-k.k first
+    (omega arith) (omega arith) c.loop-k.invariant)
+
+pub returns : goal.returns
+returns c =
+    let all : c.loop-k.k ≡ c.args.effect.now.added = omega arith in
+    grown c.args.active.now c.args.effect.now c.args.coord c.loop-k.states c.requires.0 c.requires.1
+    (rw all at c.loop-k.invariant)

@@ -1,0 +1,54 @@
+// How far a call has come, and what an action's effect adds to it. Document 01, Layout.
+// Assumes nothing.
+ghost use Rattle.std.specs.Prelude.{◌≡◌};
+ghost use Rattle.layout.specs.Inside.{Tidy};
+ghost use Rattle.layout.specs.Effects.{state_of, Grown};
+
+use super::active::{Active, State};
+use super::effect::Effect;
+use super::notes::Notes;
+use event::Coord;
+
+// What a call has changed, and what it has done.
+#[derive(Clone, Copy)]
+pub(crate) struct Progress {
+    pub active: Active,
+    pub notes: Notes,
+}
+
+// The state that a number stands for: a code, or 65,536 and a layer.
+fn state_of(number: u32, coord: Coord) -> State
+    ensures { result ≡ state_of coord number }
+{
+    if number < 65536 {
+        State::NormalKey {
+            keycode: (number % 256) as u8,
+            coord,
+        }
+    } else {
+        State::LayerModifier {
+            value: (number % 65536) as u16,
+            coord,
+        }
+    }
+}
+
+// What a call has come to once an action has run: what was added stands behind the states.
+pub(crate) fn after_effect(active: &Active, effect: &Effect, coord: Coord) -> Progress
+    requires { Tidy active.now × (effect.now.held ≡ active.now.len) }
+    ensures { Grown active.now effect.now coord result }
+{
+    let mut states = active.states;
+    for k in 0..effect.added {
+        states[effect.held + k] = state_of(effect.numbers[k], coord);
+    }
+    Progress {
+        active: Active {
+            default_layer: effect.default_layer,
+            states,
+            len: effect.held + effect.added,
+            waiting: effect.waiting,
+        },
+        notes: effect.notes,
+    }
+}
