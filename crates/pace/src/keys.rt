@@ -10,12 +10,12 @@ fn twice(layout: Layout, image: &[u8], out: &mut [u8]) -> Layout {
     once.tick(image, out).layout
 }
 
-// One call: an event's three bytes; 2 is a tick, 3 the codes alone.
+// One call: 0 and 1 are an event with its row and column, 2 is a tick, 3 the codes alone. `event` has two callers, so that it
+// stays a function too.
 fn step(layout: Layout, image: &[u8], call: [u8; 3], out: &mut [u8]) -> Layout {
-    if let Ok(event) = Event::try_from(call) {
-        return layout.event(image, event, out).layout;
-    }
     match call {
+        [0, i, j] => layout.event(image, Event::Release(i, j), out).layout,
+        [1, i, j] => layout.event(image, Event::Press(i, j), out).layout,
         [2, _, _] => layout.tick(image, out).layout,
         [3, _, _] => {
             let _ = layout.keycodes(image, out);
