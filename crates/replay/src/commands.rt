@@ -1,25 +1,26 @@
-// What a line asks: its command and its numbers, by the form that fits it. Assumes nothing.
-use super::words;
+// What a line asks: its command, with what its words say. Assumes nothing.
+use super::words::{at_most, byte, number};
+use event::{Coord, Event};
+use layout::{Stacked, State, WaitingState};
 
-#[derive(Drop)]
-pub enum Command {
-    Table(Table),
-    Texts(Texts),
-    Compare,
-    Buffer(Buffer),
+#[derive(Clone, Copy)]
+pub enum Command<'a> {
+    Table(Table<'a>),
+    Texts(Texts, &'a [u8], u16),
+    Compare(&'a [u8], &'a [u8], u16),
+    Buffer(Buffer, u16),
     Call(Call),
     Part(Part),
-    Bounce(Bounce),
-    Board(Board),
-    Unread,
+    Bounce(Bounce<'a>),
+    Board(Board<'a>),
 }
 
-// The lines of codes and tables.
-#[derive(Drop)]
-pub enum Table {
-    Codes,
-    Image,
-    Areas,
+// The lines of codes and tables, whose words are hex.
+#[derive(Clone, Copy)]
+pub enum Table<'a> {
+    Codes(&'a [u8]),
+    Image(&'a [u8]),
+    Areas(&'a [u8], &'a [u8]),
 }
 
 // A table's text into its image, and back.
@@ -30,164 +31,196 @@ pub enum Texts {
 }
 
 // The lengths of the lent buffers.
-#[derive(Drop)]
+#[derive(Clone, Copy)]
 pub enum Buffer {
     Room,
     Space,
 }
 
 // The layout's calls.
-#[derive(Drop)]
+#[derive(Clone, Copy)]
 pub enum Call {
-    Press,
-    Release,
+    Event(Event),
     Tick,
     Keycodes,
 }
 
 // What sets a part of the layout.
-#[derive(Drop)]
+#[derive(Clone, Copy)]
 pub enum Part {
-    Default,
-    Counts,
-    Key,
-    Layer,
-    Pressed,
-    Released,
-    Wait,
-    Idle,
+    Default(u16),
+    Counts(u16, u16),
+    State(usize, State),
+    Queued(usize, Stacked),
+    Waiting(Option<WaitingState>),
 }
 
-// The debouncer's.
-#[derive(Drop)]
-pub enum Bounce {
-    Make,
-    Set,
-    Scan,
-    Update,
+// The size of a debouncer, and how many scans it waits.
+#[derive(Clone, Copy)]
+pub struct Size {
+    pub rows: usize,
+    pub columns: usize,
+    pub nb_bounce: u16,
+}
+
+// The debouncer's, with its pictures.
+#[derive(Clone, Copy)]
+pub enum Bounce<'a> {
+    Make(Size, &'a [u8]),
+    Set(Size, u16, &'a [u8], &'a [u8]),
+    Scan(&'a [u8]),
+    Update(&'a [u8]),
     Picture,
 }
 
 // The keyboard's.
-#[derive(Drop)]
-pub enum Board {
-    Report,
-    Get,
-    Set,
-    Rate,
-    Idling,
-    Clock,
+#[derive(Clone, Copy)]
+pub enum Board<'a> {
+    Report(&'a [u8]),
+    Get(u8, u8),
+    Set(u8, u8, &'a [u8]),
+    Rate(u8),
+    Idling(u8, u16),
+    Clock(u16),
     Descriptor,
 }
 
-// A command, and each word of its line that is a number, at its place.
-#[derive(Drop)]
-pub struct Asked {
-    pub command: Command,
-    pub of: [usize; 8],
+// One word more than any command has.
+const WORDS: usize = 8;
+
+fn coord(i: &[u8], j: &[u8]) -> Option<Coord> {
+    Some(Coord {
+        i: byte(i)?,
+        j: byte(j)?,
+    })
 }
 
-fn of_place(place: usize) -> Command {
-    match place {
-        0 => Command::Table(Table::Codes),
-        1 => Command::Table(Table::Image),
-        2 => Command::Table(Table::Areas),
-        3 => Command::Buffer(Buffer::Room),
-        4 => Command::Buffer(Buffer::Space),
-        5 => Command::Call(Call::Press),
-        6 => Command::Call(Call::Release),
-        7 => Command::Call(Call::Tick),
-        8 => Command::Call(Call::Keycodes),
-        9 => Command::Part(Part::Default),
-        10 => Command::Part(Part::Counts),
-        11 => Command::Part(Part::Key),
-        12 => Command::Part(Part::Layer),
-        13 => Command::Part(Part::Pressed),
-        14 => Command::Part(Part::Released),
-        15 => Command::Part(Part::Wait),
-        16 => Command::Part(Part::Idle),
-        _ => of_rest(place),
-    }
+fn press(i: &[u8], j: &[u8]) -> Option<Event> {
+    Some(Event::Press(byte(i)?, byte(j)?))
 }
 
-fn of_rest(place: usize) -> Command {
-    match place {
-        17 => Command::Bounce(Bounce::Make),
-        18 => Command::Bounce(Bounce::Set),
-        19 => Command::Bounce(Bounce::Scan),
-        20 => Command::Bounce(Bounce::Update),
-        21 => Command::Bounce(Bounce::Picture),
-        22 => Command::Board(Board::Report),
-        23 => Command::Board(Board::Get),
-        24 => Command::Board(Board::Set),
-        25 => Command::Board(Board::Rate),
-        26 => Command::Board(Board::Idling),
-        27 => Command::Board(Board::Clock),
-        28 => Command::Board(Board::Descriptor),
-        29 => Command::Texts(Texts::Write),
-        30 => Command::Texts(Texts::Print),
-        31 => Command::Compare,
-        _ => Command::Unread,
-    }
+fn release(i: &[u8], j: &[u8]) -> Option<Event> {
+    Some(Event::Release(byte(i)?, byte(j)?))
 }
 
-// The place after a word and its space.
-fn past(at: usize, word: &[u8]) -> usize {
-    if 65535 < at {
-        return 65536;
-    }
-    if 65535 < word.len() {
-        return 65536;
-    }
-    at + word.len() + 1
+fn table_of<'a>(words: &[&'a [u8]]) -> Option<Command<'a>> {
+    Some(match words {
+        [b"codes", bytes] => Command::Table(Table::Codes(bytes)),
+        [b"image", bytes] => Command::Table(Table::Image(bytes)),
+        [b"areas", operator, built_in] => Command::Table(Table::Areas(operator, built_in)),
+        [b"write", bytes, n] => Command::Texts(Texts::Write, bytes, number(n)?),
+        [b"print", bytes, n] => Command::Texts(Texts::Print, bytes, number(n)?),
+        [b"compare", first, second, n] => Command::Compare(first, second, number(n)?),
+        [b"room", n] => Command::Buffer(Buffer::Room, number(n)?),
+        [b"space", n] => Command::Buffer(Buffer::Space, number(n)?),
+        _ => return None,
+    })
 }
 
-// The numbers of a line that has the form at this place of `forms`; else the first of them is 1.
-fn fit(line: &[u8], forms: &[u8], at: usize) -> [usize; 8] {
-    let name = words::word_from(forms, at);
-    let kinds = words::word_from(forms, past(at, name));
-    if words::is(name, words::word(line, 0)) && kinds.len() == words::further(line) {
-        return words::read_numbers(line, kinds);
-    }
-    [1, 0, 0, 0, 0, 0, 0, 0]
+fn call_of<'a>(words: &[&'a [u8]]) -> Option<Command<'a>> {
+    Some(Command::Call(match words {
+        [b"p", i, j] => Call::Event(press(i, j)?),
+        [b"r", i, j] => Call::Event(release(i, j)?),
+        [b"t"] => Call::Tick,
+        [b"k"] => Call::Keycodes,
+        _ => return None,
+    }))
 }
 
-fn next(forms: &[u8], at: usize) -> usize {
-    let kinds_at = past(at, words::word_from(forms, at));
-    past(kinds_at, words::word_from(forms, kinds_at))
+fn state_of(words: &[&[u8]]) -> Option<State> {
+    Some(match words {
+        [b"key", code, i, j] => State::NormalKey {
+            keycode: byte(code)?,
+            coord: coord(i, j)?,
+        },
+        [b"layer", n, i, j] => State::LayerModifier {
+            value: number(n)?,
+            coord: coord(i, j)?,
+        },
+        _ => return None,
+    })
 }
 
-// The first form that fits a line. A form is a name, a space, and a letter for each further word, as words::read_as has
-// them; a space parts it from the next.
-fn find(line: &[u8], forms: &[u8]) -> Asked {
-    let mut at = 0;
-    let mut place = 0;
-    while place < 32 {
-        let of = fit(line, forms, at);
-        if of[0] == 0 {
-            return Asked {
-                command: of_place(place),
-                of,
-            };
+fn queued_of(words: &[&[u8]]) -> Option<Stacked> {
+    let [way, i, j, age] = words else {
+        return None;
+    };
+    let event = match *way {
+        b"p" => press(i, j)?,
+        b"r" => release(i, j)?,
+        _ => return None,
+    };
+    Some(Stacked {
+        event,
+        since: number(age)?,
+    })
+}
+
+fn part_of<'a>(words: &[&'a [u8]]) -> Option<Command<'a>> {
+    Some(Command::Part(match words {
+        [b"default", n] => Part::Default(number(n)?),
+        [b"counts", states, queued] => Part::Counts(number(states)?, number(queued)?),
+        [b"state", k, rest @ ..] => Part::State(at_most(k, 63)?, state_of(rest)?),
+        [b"queue", k, rest @ ..] => Part::Queued(at_most(k, 15)?, queued_of(rest)?),
+        [b"wait", i, j, left, record] => Part::Waiting(Some(WaitingState {
+            coord: coord(i, j)?,
+            left: number(left)?,
+            number: number(record)?,
+        })),
+        [b"idle"] => Part::Waiting(None),
+        _ => return None,
+    }))
+}
+
+fn size_of(rows: &[u8], columns: &[u8], nb_bounce: &[u8]) -> Option<Size> {
+    Some(Size {
+        rows: usize::from(number(rows)?),
+        columns: usize::from(number(columns)?),
+        nb_bounce: number(nb_bounce)?,
+    })
+}
+
+fn bounce_of<'a>(words: &[&'a [u8]]) -> Option<Command<'a>> {
+    Some(Command::Bounce(match words {
+        [b"debounce", r, c, nb, start] => Bounce::Make(size_of(r, c, nb)?, start),
+        [b"debouncer", r, c, nb, since, cur, new] => {
+            Bounce::Set(size_of(r, c, nb)?, number(since)?, cur, new)
         }
-        at = next(forms, at);
-        place += 1;
-    }
-    Asked {
-        command: Command::Unread,
-        of: [0; 8],
-    }
+        [b"scan", picture] => Bounce::Scan(picture),
+        [b"update", picture] => Bounce::Update(picture),
+        [b"picture"] => Bounce::Picture,
+        _ => return None,
+    }))
 }
 
-// The forms of all commands, in the order in which `of_place` and `of_rest` count them. Two spaces: no further word.
-pub fn read(line: &[u8]) -> Asked {
-    find(
-        line,
-        b"codes - image - areas -- room n space n \
-          p bb r bb t  k  \
-          default n counts nn state sKbbb state sLnbb queue qPbbn queue qRbbn wait bbnn idle  \
-          debounce nnn- debouncer nnnn-- scan - update - picture  \
-          report - get bb set bb- rate b idling bn clock n descriptor  \
-          write -n print -n compare --n",
-    )
+fn board_of<'a>(words: &[&'a [u8]]) -> Option<Command<'a>> {
+    Some(Command::Board(match words {
+        [b"report", bytes] => Board::Report(bytes),
+        [b"get", kind, id] => Board::Get(byte(kind)?, byte(id)?),
+        [b"set", kind, id, bytes] => Board::Set(byte(kind)?, byte(id)?, bytes),
+        [b"rate", n] => Board::Rate(byte(n)?),
+        [b"idling", rate, count] => Board::Idling(byte(rate)?, number(count)?),
+        [b"clock", n] => Board::Clock(number(n)?),
+        [b"descriptor"] => Board::Descriptor,
+        _ => return None,
+    }))
+}
+
+// The command that a line's words are, if they are one.
+fn command_of<'a>(words: &[&'a [u8]]) -> Option<Command<'a>> {
+    table_of(words)
+        .or_else(|| call_of(words))
+        .or_else(|| part_of(words))
+        .or_else(|| bounce_of(words))
+        .or_else(|| board_of(words))
+}
+
+pub fn read(line: &[u8]) -> Option<Command> {
+    let mut words: [&[u8]; WORDS] = [&[]; WORDS];
+    let mut n = 0;
+    for word in line.split(|c| *c == b' ') {
+        *words.get_mut(n)? = word;
+        n += 1;
+    }
+    command_of(words.get(..n)?)
 }

@@ -1,66 +1,54 @@
 // The lines of codes and of the table image: `codes`, `image`, `areas`. Assumes nothing.
 use super::say;
-use super::words::Bytes;
+use super::words::{ROOM, hex};
 use codes::KbHidReport;
-use image::{Checked, Source};
+use image::{Source, check, in_use, source_of};
 use text::{Text, front};
 
-// The bytes of the image that stands: a line has room for fewer, so that it stands whole, legal or not.
-pub const ROOM: usize = 32768;
+// The image that stands, legal or not, and so many bytes of it: there is no heap. A line has room for fewer.
+#[derive(Drop)]
+pub struct Image {
+    pub bytes: [u8; ROOM],
+    pub len: usize,
+}
+
+impl Image {
+    pub fn stretch(&self) -> &[u8] {
+        front(&self.bytes, self.len)
+    }
+
+    // `image HEX`: the image that later lines are given, and whether it is accepted.
+    pub fn set(&mut self, word: &[u8]) -> Option<Text> {
+        let mut room = [0; ROOM];
+        let bytes = hex(word, &mut room)?;
+        self.len = bytes.len();
+        self.bytes.get_mut(..bytes.len())?.copy_from_slice(bytes);
+        Some(match check(bytes) {
+            Ok(_) => say::text(b"accepted"),
+            Err(fault) => say::refused(fault),
+        })
+    }
+}
 
 // `codes HEX`: the report of these codes.
-pub fn codes(bytes: Bytes) -> Text {
-    if !bytes.read {
-        return say::unread();
-    }
-    let all = bytes.bytes;
-    let report = KbHidReport::from_codes(&all, bytes.len);
-    let report_bytes = report.bytes;
-    Text::new().put_hex(&report_bytes)
+pub fn codes(word: &[u8]) -> Option<Text> {
+    let mut room = [0; ROOM];
+    let codes = hex(word, &mut room)?;
+    let report = KbHidReport::from_codes(codes, codes.len());
+    Some(Text::new().put_hex(&report.bytes))
 }
 
-// Whether an image is accepted.
-pub fn checked(image: &[u8]) -> Text {
-    let answer = image::check(image);
-    match answer {
-        Checked::Accepted(_) => say::text(b"accepted"),
-        Checked::Refused(_, _) => {
-            let told = answer.told();
-            say::refused(told.number, told.place)
-        }
-    }
-}
-
-// The image into its place; what is past that place's end is left out.
-pub fn keep(image: &[u8], table: &mut [u8; ROOM]) {
-    let mut i = 0;
-    while i < image.len() && i < ROOM {
-        table[i] = image[i];
-        i += 1;
-    }
-}
-
-// Which area holds the table in use, and how long its stretch is; or the refusal that is told beside an empty stretch.
-fn in_use<'a>(operator: &'a [u8], built_in: &'a [u8]) -> Text {
-    let stretch = image::in_use(operator, built_in);
-    let length = stretch.len();
-    let source = image::source_of(operator, built_in);
-    match source {
-        Source::Operator(_) => say::number(b"operator ", length),
-        Source::BuiltIn(_) => say::number(b"built-in ", length),
-        Source::Neither(_, _) => {
-            let told = image::refusal_in_use(operator, built_in);
-            say::refused(told.number, told.place)
-        }
-    }
-}
-
-// `areas HEX HEX`: the operator's area and the built-in one.
-pub fn areas(operator: Bytes, built_in: Bytes) -> Text {
-    if !operator.read || !built_in.read {
-        return say::unread();
-    }
-    let first = operator.bytes;
-    let second = built_in.bytes;
-    in_use(front(&first, operator.len), front(&second, built_in.len))
+// `areas HEX HEX`: which area, the operator's or the built-in one, holds the table in use, and how long its stretch is; or the
+// refusal that is told beside an empty stretch.
+pub fn areas(operator: &[u8], built_in: &[u8]) -> Option<Text> {
+    let mut one = [0; ROOM];
+    let mut other = [0; ROOM];
+    let operator = hex(operator, &mut one)?;
+    let built_in = hex(built_in, &mut other)?;
+    let length = in_use(operator, built_in).len();
+    Some(match source_of(operator, built_in) {
+        Ok(Source::Operator(_)) => say::number(b"operator ", length),
+        Ok(Source::BuiltIn(_)) => say::number(b"built-in ", length),
+        Err(fault) => say::refused(fault),
+    })
 }
