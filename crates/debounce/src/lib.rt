@@ -33,6 +33,7 @@ pub struct Debouncer {
     pub columns: usize,
 }
 
+// A refused making gives a debouncer too, by document 01: so the answer and it, and not one `Result`.
 #[derive(Clone, Copy, PartialEq, Eq)]
 pub struct Made {
     pub answer: Result<(), Fault>,

@@ -30,7 +30,7 @@ pub(crate) struct Weighed {
 
 impl Body<'_> {
     // Record n, which is good, each word that it takes read once. The children of a MultipleActions are its entries, and those
-    // of a HoldTap its own last two words, hold and tap.
+    // of a HoldTap its own last two words, hold and tap. An action of it would have all its words read, and this needs two.
     fn child(&self, n: usize) -> Child
         requires { Formed self.now.image.now n × Good self.now.image.now n }
         ensures { Parts self.now.image.now n result }

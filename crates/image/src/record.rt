@@ -18,7 +18,7 @@ pub enum Action {
     HoldTap(u16, u16, u16),
 }
 
-// The action of a kind with the words a, b, c.
+// The action of a kind with the words a, b, c: here the image's word becomes an action, and any other kind is NoOp.
 #[tactic(auto, unfolding(crate::specs::Record::action_of))]
 pub(crate) fn action_of(kind: u16, a: u16, b: u16, c: u16) -> Action
     ensures { result ≡ action_of kind a b c }

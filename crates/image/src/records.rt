@@ -16,7 +16,8 @@ use super::body::Body;
 use codes::KeyCode;
 use refusal::{Fault, Refusal, rule};
 
-// The form of a record's words, where the list has so many entries.
+// The form of a record's words, where the list has so many entries. The kind is the image's word: a form that is not good has no
+// action.
 #[tactic(auto, unfolding(crate::specs::Check::form))]
 fn form_good(listed: usize, kind: u16, a: u16, b: u16, c: u16) -> bool
     ensures { result ≡ form listed kind a b c }
@@ -83,7 +84,8 @@ impl Body<'_> {
         rule(1 + sum.weight <= 64, Refusal::Weight, n)
     }
 
-    // The rules of record n, where every lower record is good: its form, then those that its kind can break.
+    // The rules of record n, where every lower record is good: its form, then those that its kind can break. The kind stays the
+    // image's word: an action would be made of it to be taken apart in the next line.
     fn record_rules(&self, n: usize) -> Result<(), Fault>
         requires { (n < records_of self.now.image.now) × ((k : ℕ) → k < n → Good self.now.image.now k) }
         ensures { result ≡ record_fault self.now.image.now n }

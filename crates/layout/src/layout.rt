@@ -60,6 +60,7 @@ impl Layout {
     }
 
     // A key event. The codes go to the start of the buffer, in state order.
+    // It begins as `tick` does: a refusal hands the layout back, which `?` cannot, and a closure for the rest is no plainer.
     pub fn event(self, image: &[u8], event: Event, out: &mut [u8]) -> Answered
         ensures { handed result out.new ≡ event_reply image.now event self out.old }
     {

@@ -21,6 +21,7 @@ pub struct Decision {
 }
 
 // The event acted on, if any, how many decisions were made, the decisions in their order, and how many states were dropped.
+// `made` is a count, which demand 3 adds up, and no mark of which decisions are there: those are options.
 #[derive(Clone, Copy, PartialEq, Eq, Debug)]
 pub struct Notes {
     pub acted: Option<Event>,

@@ -1,5 +1,5 @@
 // The bytes of `table.img`, read into a lent buffer. Assumes nothing.
-use std::io::Read;
+use console::read_whole;
 use std::{fs, io};
 
 // One byte more than the largest image has, 16 + 2 * 8 * 8 * 16 + 8 * 256 + 2 * 1024. A file that fills it is too long: the
@@ -9,15 +9,7 @@ pub(crate) const ROOM: usize = 6161;
 // Reads to the file's end, or to the buffer's: how many bytes there are. The file is closed again.
 fn read_file(rt: &HostRuntime, bytes: &mut [u8]) -> io::Result<usize> {
     let mut file = fs::open(rt, "table.img")?;
-    let mut n = 0;
-    while n < bytes.len() {
-        let count = file.read(&mut bytes[n..])?;
-        if count == 0 {
-            break;
-        }
-        n += count;
-    }
-    Ok(n)
+    read_whole(&mut file, bytes)
 }
 
 // How many bytes the file has, at most as many as there is room for. Where it cannot be opened or read, standard error says why;

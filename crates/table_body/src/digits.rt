@@ -14,7 +14,7 @@ pub(crate) fn decimal(n: usize, out: &mut [u8; 20]) -> usize
     k
 }
 
-// How many digits n takes, one at least.
+// How many digits n takes, one at least. Each turn divides: there is no range to go over.
 fn digit_count(n: usize) -> usize
     ensures { IsDigitCount 10 1 n result }
 {

@@ -14,7 +14,8 @@ use super::scan::find;
 use image::{Shape, word_or_zero};
 use refusal::{Fault, Refusal, rule};
 
-// The five counts, which stand behind the version, and the offsets that they make.
+// The five counts, which stand behind the version, and the offsets that they make. `image::check` reads the offsets, which are
+// not there yet, from the image.
 #[tactic(auto, unfolding(crate::specs::Write::shape_from, image::specs::Words::words_from))]
 fn shape_in(image: &[u8]) -> Shape
     ensures { (result ≡ shape_from (words_from image.now 2 5)) × Words result }
