@@ -1,15 +1,14 @@
 -- Laws of effects and of the steps that they come by. Assumes nothing.
---     grown-more, grown     the states that numbers stand for, put behind others
+--     grown-more, grown     the states that were added, put behind others
 --     new-wait, new-base, settled, push-room, push-full     an effect with one part put in, and the step that it is
 --     effected-as, effected-then, effected-begun     the same step by another name; one step after another; a hold-tap begun
 --     Left     where a loop over a list of steps stands: what is done and what is left make the whole
 --     did_effect     a run with what its effect left
-use mathlib.Core.Path.{◌≡◌, refl, sym, ap, subst, ◌∙◌}
+use mathlib.Core.Path.{◌≡◌, refl, sym, ap, ◌∙◌}
 use mathlib.Core.List.{List, ◌∷◌, [], ◌++◌, append_assoc, append-nil, map}
 use Prim.Native.Nat.{ℕ, ◌+◌, ◌≤◌, ◌<◌}
 use native.Mathlib.Numerals.{add-one}
 use native.Mathlib.Omega.{arith}
-use native.Mathlib.Nat.{mod-eq_of_lt, add-mod_left}
 use lib.ListN.{length, take, set, get_or, length-append, length-map}
 use lib.Seq.{length-take-le, take-suc, take-suc-set}
 use borrow.Author.Tests.{lt-ltb, le-ltb}
@@ -22,47 +21,39 @@ use Rattle.layout.specs.Inside.{Tidy, Did}
 use Rattle.layout.specs.Room.{HasRoom}
 use Rattle.layout.specs.Effects.{state_of, effect_in, Begun as BeginsSo, Effected, Grown}
 use Rattle.layout.specs.declared.active.State.{State}
-use Rattle.layout.specs.declared.active.State.TheVariants.{NormalKey, LayerModifier}
 use Rattle.layout.specs.declared.active.WaitingState.{WaitingState}
 use Rattle.std.specs.Prelude.{Option, None}
 use Rattle.layout.specs.declared.notes.Way.{Way}
 use Rattle.layout.specs.declared.notes.Notes.{Notes}
 use Rattle.layout.specs.declared.active.Active.{Active}
+use Rattle.layout.specs.declared.effect.Holds.{Holds}
+use Rattle.layout.specs.declared.effect.Holds.TheVariants.{Code}
 use Rattle.layout.specs.declared.effect.Effect.{Effect}
 use Rattle.layout.specs.declared.progress.Progress.{Progress}
 use Rattle.layout.proofs.Pads.{held_more, take_pad, map-append}
 use Rattle.layout.proofs.Parts.{held_length}
 use Rattle.layout.proofs.Noted.{noted_after}
 
--- the numbers of states
-code_state : (c : Coord) (n : ℕ) → n < 256 → state_of c n ≡ NormalKey n c
-unfolding state_of
-code_state c n h = rw (lt-ltb n 65536 (omega arith), mod-eq_of_lt {n = n} {m = 256} h)
-
-layer_state : (c : Coord) (v : ℕ) → v < 65536 → state_of c (65536 + v) ≡ LayerModifier v c
-unfolding state_of
-layer_state c v h = rw (le-ltb (65536 + v) 65536 (omega arith), add-mod_left 65536 v, mod-eq_of_lt {n = v} {m = 65536} h)
-
--- a loop that puts the states of numbers behind the first h places: the array before it, and after a effect at k
+-- a loop that puts states behind the first h places: the array before it, and after the step at k
 pub grown_none : (active : Active) (h : ℕ) → Tidy active → h ≡ active.len → active.states ≡ pad 64 no_state (take h active.states ++ [])
 grown_none active h t e = rw (e, append-nil) (sym t.clean)
 
-pub grown_more : (c : Coord) (l arr : List State) (a : List ℕ) (h k : ℕ) → length l ≡ h → h + k < 64 → k < length a → arr ≡ pad 64 no_state (l ++ map (state_of c) (take k a))
-    → set arr (h + k) (state_of c (get_or a k 0)) ≡ pad 64 no_state (l ++ map (state_of c) (take (k + 1) a))
+pub grown_more : (c : Coord) (l arr : List State) (a : List Holds) (h k : ℕ) → length l ≡ h → h + k < 64 → k < length a → arr ≡ pad 64 no_state (l ++ map (state_of c) (take k a))
+    → set arr (h + k) (state_of c (get_or a k (Code 0))) ≡ pad 64 no_state (l ++ map (state_of c) (take (k + 1) a))
 grown_more c l arr a h k e lt in-a ea =
     let put = l ++ map (state_of c) (take k a) in
     let count : h + k ≡ length put = sym (rw (length-append, length-map, length-take-le k a (omega arith), e)) in
-    let more : l ++ map (state_of c) (take (k + 1) a) ≡ put ++ (state_of c (get_or a k 0) ∷ []) = rw (add-one, take-suc a k 0 in-a, map-append, append_assoc) in
-    rw more (held_more 64 no_state put (state_of c (get_or a k 0)) arr (h + k) lt count ea).1
+    let more : l ++ map (state_of c) (take (k + 1) a) ≡ put ++ (state_of c (get_or a k (Code 0)) ∷ []) = rw (add-one, take-suc a k (Code 0) in-a, map-append, append_assoc) in
+    rw more (held_more 64 no_state put (state_of c (get_or a k (Code 0))) arr (h + k) lt count ea).1
 
 pub grown : (active : Active) (effect : Effect) (c : Coord) (arr : List State) → Tidy active → effect.held ≡ active.len
-    → arr ≡ pad 64 no_state (take effect.held active.states ++ map (state_of c) (take effect.added effect.numbers))
+    → arr ≡ pad 64 no_state (take effect.held active.states ++ map (state_of c) (take effect.added effect.holds))
     → Grown active effect c (record { active = record { default_layer = effect.default_layer; states = arr; len = effect.held + effect.added; waiting = effect.waiting }; notes = effect.notes })
 grown active effect c arr t e ea =
     let r = effect.roomy in
-    let put = take effect.held active.states ++ map (state_of c) (take effect.added effect.numbers) in
+    let put = take effect.held active.states ++ map (state_of c) (take effect.added effect.holds) in
     let first : length (take effect.held active.states) ≡ effect.held = rw e (held_length active t) in
-    let count : effect.held + effect.added ≡ length put = sym (rw (length-append, length-map, first, length-take-le effect.added effect.numbers (omega (arith, r.few, r.long)))) in
+    let count : effect.held + effect.added ≡ length put = sym (rw (length-append, length-map, first, length-take-le effect.added effect.holds (omega (arith, r.few, r.long)))) in
     let is : take (effect.held + effect.added) arr ≡ put = rw (count, ea) (take_pad 64 no_state put) in
     record {
       tidy = record { few = r.few; clean = ap (pad 64 no_state) is ∙ sym ea };
@@ -90,19 +81,19 @@ module _ (img : List ℕ) (c : Coord) where
   unfolding noted_marks
   effected_nothing t = record { held = refl; is = λ s h q. refl; notes = λ s h q. refl }
 
-  pub new_wait : (t : Effect) (w : Option WaitingState) (r : HasRoom t.held t.added t.numbers)
-      → Effected img c t (record { default_layer = t.default_layer; held = t.held; numbers = t.numbers; added = t.added; waiting = w; notes = t.notes; roomy = r }) (λ m. still (with_waiting (waiting_of img w) m))
+  pub new_wait : (t : Effect) (w : Option WaitingState) (r : HasRoom t.held t.added t.holds)
+      → Effected img c t (record { default_layer = t.default_layer; held = t.held; holds = t.holds; added = t.added; waiting = w; notes = t.notes; roomy = r }) (λ m. still (with_waiting (waiting_of img w) m))
   unfolding noted_marks
   new_wait t w r = record { held = refl; is = λ s h q. refl; notes = λ s h q. refl }
 
-  pub new_base : (t : Effect) (v : ℕ) (r : HasRoom t.held t.added t.numbers)
-      → Effected img c t (record { default_layer = v; held = t.held; numbers = t.numbers; added = t.added; waiting = t.waiting; notes = t.notes; roomy = r }) (λ m. still (with_base v m))
+  pub new_base : (t : Effect) (v : ℕ) (r : HasRoom t.held t.added t.holds)
+      → Effected img c t (record { default_layer = v; held = t.held; holds = t.holds; added = t.added; waiting = t.waiting; notes = t.notes; roomy = r }) (λ m. still (with_base v m))
   unfolding noted_marks
   new_base t v r = record { held = refl; is = λ s h q. refl; notes = λ s h q. refl }
 
   -- what waits waits no more, and the decision is noted
-  pub settled : (t : Effect) (k : Coord) (way : Way) (notes : Notes) (r : HasRoom t.held t.added t.numbers) → notes ≡ note_decision t.notes k way
-      → Effected img c t (record { default_layer = t.default_layer; held = t.held; numbers = t.numbers; added = t.added; waiting = None; notes = notes; roomy = r }) (λ m. marked (Decided k way) (still (with_waiting Idle m)))
+  pub settled : (t : Effect) (k : Coord) (way : Way) (notes : Notes) (r : HasRoom t.held t.added t.holds) → notes ≡ note_decision t.notes k way
+      → Effected img c t (record { default_layer = t.default_layer; held = t.held; holds = t.holds; added = t.added; waiting = None; notes = notes; roomy = r }) (λ m. marked (Decided k way) (still (with_waiting Idle m)))
   unfolding noted_marks
   settled t k way notes r e = record { held = refl; is = λ s h q. refl; notes = λ s h q. e }
 
@@ -165,45 +156,39 @@ module _ (img : List ℕ) (c : Coord) where
       }
 
   -- how many states there are, those added among them
-  count : (t : Effect) (s : List State) → length s ≡ t.held → length (s ++ map (state_of c) (take t.added t.numbers)) ≡ t.held + t.added
-  count t s h = rw (length-append, length-map, length-take-le t.added t.numbers (omega (arith, t.roomy.few, t.roomy.long)), h)
+  count : (t : Effect) (s : List State) → length s ≡ t.held → length (s ++ map (state_of c) (take t.added t.holds)) ≡ t.held + t.added
+  count t s h = rw (length-append, length-map, length-take-le t.added t.holds (omega (arith, t.roomy.few, t.roomy.long)), h)
 
-  pub push_room : (t : Effect) (n : ℕ) (r : HasRoom t.held (t.added + 1) (set t.numbers t.added n)) → t.held + t.added < 64
-      → Effected img c t (record { default_layer = t.default_layer; held = t.held; numbers = set t.numbers t.added n; added = t.added + 1; waiting = t.waiting; notes = t.notes; roomy = r }) (push (state_of c n))
+  pub push_room : (t : Effect) (new : Holds) (r : HasRoom t.held (t.added + 1) (set t.holds t.added new)) → t.held + t.added < 64
+      → Effected img c t (record { default_layer = t.default_layer; held = t.held; holds = set t.holds t.added new; added = t.added + 1; waiting = t.waiting; notes = t.notes; roomy = r }) (push (state_of c new))
   unfolding noted_marks
-  push_room t n r lt =
-      let a = t.numbers in
-      let more : take (t.added + 1) (set a t.added n) ≡ take t.added a ++ (n ∷ []) = rw (add-one) (take-suc-set a t.added n (omega (arith, t.roomy.long))) in
-      let yes : (s : List State) → length s ≡ t.held → (q : List Queued) → push (state_of c n) (effect_in img c t s q) ≡ still (with_states ((s ++ map (state_of c) (take t.added a)) ++ (state_of c n ∷ [])) (effect_in img c t s q)) =
-      λ s h q. push_yes (state_of c n) (effect_in img c t s q) (omega (arith, count t s h)) in
+  push_room t new r lt =
+      let a = t.holds in
+      let more : take (t.added + 1) (set a t.added new) ≡ take t.added a ++ (new ∷ []) = rw (add-one) (take-suc-set a t.added new (omega (arith, t.roomy.long))) in
+      let yes : (s : List State) → length s ≡ t.held → (q : List Queued) → push (state_of c new) (effect_in img c t s q) ≡ still (with_states ((s ++ map (state_of c) (take t.added a)) ++ (state_of c new ∷ [])) (effect_in img c t s q)) =
+      λ s h q. push_yes (state_of c new) (effect_in img c t s q) (omega (arith, count t s h)) in
       record {
         held = refl;
         is = λ s h q.
-            model_of_lem q refl (ap (λ (x : List ℕ). s ++ map (state_of c) x) more ∙ ap (λ (x : List State). s ++ x) (map-append (state_of c) (take t.added a) (n ∷ [])) ∙ sym (append_assoc s (map (state_of c) (take t.added a)) (state_of c n ∷ []))) refl
+            model_of_lem q refl (ap (λ (x : List Holds). s ++ map (state_of c) x) more ∙ ap (λ (x : List State). s ++ x) (map-append (state_of c) (take t.added a) (new ∷ [])) ∙ sym (append_assoc s (map (state_of c) (take t.added a)) (state_of c new ∷ []))) refl
             ∙ sym (ap (λ (x : Done). x.layout) (yes s h q));
         notes = λ s h q. sym (ap (λ (x : Done). noted t.notes x) (yes s h q));
       }
 
   -- a state that finds no room leaves the effect as it was, and is counted
-  pub push_full : (t u : Effect) (n : ℕ) (notes : Notes) (r : HasRoom u.held u.added u.numbers) → u ≡ t → notes ≡ note_dropped u.notes 1 → 64 ≤ t.held + t.added
-      → Effected img c t (record { default_layer = u.default_layer; held = u.held; numbers = u.numbers; added = u.added; waiting = u.waiting; notes = notes; roomy = r }) (push (state_of c n))
+  pub push_full : (t u : Effect) (new : Holds) (notes : Notes) (r : HasRoom u.held u.added u.holds) → u ≡ t → notes ≡ note_dropped u.notes 1 → 64 ≤ t.held + t.added
+      → Effected img c t (record { default_layer = u.default_layer; held = u.held; holds = u.holds; added = u.added; waiting = u.waiting; notes = notes; roomy = r }) (push (state_of c new))
   unfolding noted_marks
-  push_full t u n notes r e en ge =
-      let no : (s : List State) → length s ≡ t.held → (q : List Queued) → push (state_of c n) (effect_in img c t s q) ≡ lost (effect_in img c t s q) =
-      λ s h q. push_no (state_of c n) (effect_in img c t s q) (omega (arith, count t s h)) in
+  push_full t u new notes r e en ge =
+      let no : (s : List State) → length s ≡ t.held → (q : List Queued) → push (state_of c new) (effect_in img c t s q) ≡ lost (effect_in img c t s q) =
+      λ s h q. push_no (state_of c new) (effect_in img c t s q) (omega (arith, count t s h)) in
       record {
         held = ap (λ (x : Effect). x.held) e;
         is = λ s h q.
-            model_of_lem q (ap (λ (x : Effect). x.default_layer) e) (ap (λ (x : Effect). s ++ map (state_of c) (take x.added x.numbers)) e) (ap (λ (x : Effect). waiting_of img x.waiting) e)
+            model_of_lem q (ap (λ (x : Effect). x.default_layer) e) (ap (λ (x : Effect). s ++ map (state_of c) (take x.added x.holds)) e) (ap (λ (x : Effect). waiting_of img x.waiting) e)
             ∙ sym (ap (λ (x : Done). x.layout) (no s h q));
         notes = λ s h q. en ∙ ap (λ (x : Effect). note_dropped x.notes 1) e ∙ sym (ap (λ (x : Done). noted t.notes x) (no s h q));
       }
-
-  pub push_code : {t u : Effect} (n : ℕ) → n < 256 → Effected img c t u (push (state_of c n)) → Effected img c t u (push (NormalKey n c))
-  push_code {t} {u} n h d = subst (λ (x : State). Effected img c t u (push x)) (code_state c n h) d
-
-  pub push_layer : {t u : Effect} (v : ℕ) → v < 65536 → Effected img c t u (push (state_of c (65536 + v))) → Effected img c t u (push (LayerModifier v c))
-  push_layer {t} {u} v h d = subst (λ (x : State). Effected img c t u (push x)) (layer_state c v h) d
 
   -- what a call has come to once an action has run comes by the action's step
   pub did_effect : (active : Active) (notes : Notes) (end : Progress) (effect last : Effect) {f : Model → Done} → Tidy active → BeginsSo active notes effect → Effected img c effect last f
@@ -212,7 +197,7 @@ module _ (img : List ℕ) (c : Coord) where
       let s = states_in active in
       let h : length s ≡ effect.held = held_length active t ∙ sym b.held in
       let first : effect_in img c effect s q ≡ model_of img active q =
-      model_of_lem q b.base (ap (λ (n : ℕ). s ++ map (state_of c) (take n effect.numbers)) b.none ∙ append-nil s) (ap (waiting_of img) b.waiting) in
+      model_of_lem q b.base (ap (λ (n : ℕ). s ++ map (state_of c) (take n effect.holds)) b.none ∙ append-nil s) (ap (waiting_of img) b.waiting) in
       record {
         tidy = g.tidy;
         is = model_of_lem q g.base g.states (ap (waiting_of img) g.waiting) ∙ d.is s h q ∙ ap (λ (m : Model). (f m).layout) first;

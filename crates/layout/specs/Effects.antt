@@ -1,7 +1,7 @@
--- What the private functions that run an action promise: how its effect, with the numbers of the states that it added, and the
--- layout that they stand for go together.
+-- What the private functions that run an action promise: how its effect, with what the states that it added hold, and the
+-- layout that it stands for go together.
 -- Assumes nothing.
-use Rattle.std.specs.Prelude.{◌≡◌, Bool, true, false, cond, List, ◌++◌, map, ℕ, ◌+◌, ◌%◌, ◌≤◌, ltb, length, take}
+use Rattle.std.specs.Prelude.{◌≡◌, Bool, true, false, List, ◌++◌, map, ℕ, ◌+◌, ◌≤◌, ltb, length, take}
 use Rattle.lists.specs.Lists.{every}
 use Rattle.codes.specs.Codes.{legal}
 use Rattle.event.specs.declared.Coord.{Coord}
@@ -17,13 +17,16 @@ use Rattle.layout.specs.declared.active.State.TheVariants.{NormalKey, LayerModif
 use Rattle.layout.specs.declared.active.Active.{Active}
 use Rattle.layout.specs.declared.notes.Notes.{Notes}
 use Rattle.layout.specs.declared.notes.Way.{Way}
+use Rattle.layout.specs.declared.effect.Holds.{Holds}
+use Rattle.layout.specs.declared.effect.Holds.TheVariants.{Code, Layer}
 use Rattle.layout.specs.declared.effect.Effect.{Effect}
 use Rattle.layout.specs.declared.progress.Progress.{Progress}
 use Rattle.layout.specs.declared.action.Setting.{Setting}
 
--- the state that a number stands for, at the coordinates c: a code, or 65,536 and a layer
-unfoldable pub state_of : Coord → ℕ → State
-state_of c n = cond (ltb n 65536) (NormalKey (n % 256) c) (LayerModifier (n % 65536) c)
+-- the state that holds a code or a layer, at the coordinates c
+unfoldable pub state_of : Coord → Holds → State
+state_of c (Code code) = NormalKey code c
+state_of c (Layer value) = LayerModifier value c
 
 -- before an action runs
 pub record Begun (active : Active) (notes : Notes) (effect : Effect) : Type 0 where
@@ -36,7 +39,7 @@ pub record Begun (active : Active) (notes : Notes) (effect : Effect) : Type 0 wh
 -- the layout that an effect stands for, where s are the states held before, and q is the queue
 abbrev pub effect_in : List ℕ → Coord → Effect → List State → List Queued → Model
 effect_in img c effect s q =
-    record { base = effect.default_layer; states = s ++ map (state_of c) (take effect.added effect.numbers); waiting = waiting_of img effect.waiting; queue = q }
+    record { base = effect.default_layer; states = s ++ map (state_of c) (take effect.added effect.holds); waiting = waiting_of img effect.waiting; queue = q }
 
 -- one effect comes from another by a step, whatever states were held and whatever is queued
 pub record Effected (img : List ℕ) (c : Coord) (start end : Effect) (step : Model → Done) : Type 0 where
@@ -48,7 +51,7 @@ pub record Effected (img : List ℕ) (c : Coord) (start end : Effect) (step : Mo
 pub record Grown (active : Active) (effect : Effect) (c : Coord) (end : Progress) : Type 0 where
   pub tidy : Tidy end.active
   pub base : end.active.default_layer ≡ effect.default_layer
-  pub states : states_in end.active ≡ states_in active ++ map (state_of c) (take effect.added effect.numbers)
+  pub states : states_in end.active ≡ states_in active ++ map (state_of c) (take effect.added effect.holds)
   pub waiting : end.active.waiting ≡ effect.waiting
   pub notes : end.notes ≡ effect.notes
 
@@ -60,9 +63,9 @@ abbrev pub Leaves : Effect → Effect → (List ℕ → Model → Done) → Type
 Leaves start end step = (img : List ℕ) (c : Coord) → Effected img c start end (step img)
 
 -- a state is added where there is room, and whether it was kept; where it was not, nothing is changed
-pub record Added (start end : Effect) (number : ℕ) (kept : Bool) : Type 0 where
+pub record Added (start end : Effect) (holds : Holds) (kept : Bool) : Type 0 where
   pub told : kept ≡ ltb (start.held + start.added) 64
-  pub yes : kept ≡ true → Pushes start end (λ c. state_of c number)
+  pub yes : kept ≡ true → Pushes start end (λ c. state_of c holds)
   pub no : kept ≡ false → end ≡ start
 
 -- legal codes that the list has; and pushed, one after the other

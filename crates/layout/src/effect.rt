@@ -1,5 +1,6 @@
 // The effect of an action. It only adds states, all at the coordinates of its key, so the states are not carried
-// through it: those that it adds are written down as numbers, and put behind the others once it has run. Document 01, Layout.
+// through it: of those that it adds only the codes and layers are written down, and once it has run they are put behind the
+// others. Document 01, Layout.
 // Assumes nothing.
 ghost use Rattle.layout.specs.Room.{HasRoom};
 
@@ -8,17 +9,24 @@ use super::layout::Layout;
 use super::notes::{Decision, Notes, Way, note_decision, note_dropped};
 use event::Coord;
 
-// The default layer, how many states were held before, the numbers of those that are added and how many they are, what waits,
+// What a state holds, without the coordinates of its key.
+#[derive(Clone, Copy, PartialEq, Eq, Debug)]
+pub(crate) enum Holds {
+    Code(u8),
+    Layer(u16),
+}
+
+// The default layer, how many states were held before, what those that are added hold and how many they are, what waits,
 // and what was done. With those held before there are at most 64.
 #[derive(Drop)]
 pub(crate) struct Effect {
     pub default_layer: usize,
     pub held: usize,
-    pub numbers: [u32; Layout::STATES],
+    pub holds: [Holds; Layout::STATES],
     pub added: usize,
     pub waiting: Option<WaitingState>,
     pub notes: Notes,
-    ghost roomy: { HasRoom held added numbers },
+    ghost roomy: { HasRoom held added holds },
 }
 
 impl Effect {
@@ -39,7 +47,7 @@ impl Effect {
         Effect {
             default_layer: active.default_layer,
             held: active.len,
-            numbers: [0; Layout::STATES],
+            holds: [Holds::Code(0); Layout::STATES],
             added: 0,
             waiting: active.waiting,
             notes,
@@ -47,39 +55,41 @@ impl Effect {
     }
 
     // Adds a state where there is room, and says whether it was kept.
-    fn add(&mut self, number: u32) -> bool
-        ensures { Added self.old self.new number result }
+    fn add(&mut self, holds: Holds) -> bool
+        ensures { Added self.old self.new holds result }
     {
         if Layout::STATES <= self.held + self.added {
             return false;
         }
-        self.numbers[self.added] = number;
+        self.holds[self.added] = holds;
         self.added += 1;
         true
     }
 
     // One state more. A 65th is dropped, and counted.
-    fn push(&mut self, number: u32)
-        ensures { Pushes self.old self.new (λ c. state_of c number) }
+    fn push(&mut self, holds: Holds)
+        ensures { Pushes self.old self.new (λ c. state_of c holds) }
     {
-        if !self.add(number) {
+        if !self.add(holds) {
             self.notes = note_dropped(self.notes);
         }
     }
 
     // A key's code held.
+    #[tactic(auto, unfolding(crate::specs::Effects::state_of), using(image::proofs::Accepted::code_byte))]
     pub(crate) fn push_key(&mut self, code: u16)
         requires { legal code ≡ true }
         ensures { Pushes self.old self.new (λ c. State.NormalKey code c) }
     {
-        self.push(code as u32);
+        self.push(Holds::Code(code as u8));
     }
 
     // A layer held.
+    #[tactic(auto, unfolding(crate::specs::Effects::state_of))]
     pub(crate) fn push_layer(&mut self, value: u16)
         ensures { Pushes self.old self.new (λ c. State.LayerModifier value c) }
     {
-        self.push(65536 + (value as u32));
+        self.push(Holds::Layer(value));
     }
 
     // A hold-tap waits.

@@ -5,7 +5,7 @@ ghost use Rattle.layout.specs.Inside.{Tidy};
 ghost use Rattle.layout.specs.Effects.{state_of, Grown};
 
 use super::active::{Active, State};
-use super::effect::Effect;
+use super::effect::{Effect, Holds};
 use super::notes::Notes;
 use event::Coord;
 
@@ -16,20 +16,14 @@ pub(crate) struct Progress {
     pub notes: Notes,
 }
 
-// The state that a number stands for: a code, or 65,536 and a layer.
-fn state_of(number: u32, coord: Coord) -> State
-    ensures { result ≡ state_of coord number }
+// The state that holds this, at its coordinates.
+#[tactic(auto, unfolding(crate::specs::Effects::state_of))]
+fn state_of(holds: Holds, coord: Coord) -> State
+    ensures { result ≡ state_of coord holds }
 {
-    if number < 65536 {
-        State::NormalKey {
-            keycode: (number % 256) as u8,
-            coord,
-        }
-    } else {
-        State::LayerModifier {
-            value: (number % 65536) as u16,
-            coord,
-        }
+    match holds {
+        Holds::Code(keycode) => State::NormalKey { keycode, coord },
+        Holds::Layer(value) => State::LayerModifier { value, coord },
     }
 }
 
@@ -40,7 +34,7 @@ pub(crate) fn after_effect(active: &Active, effect: &Effect, coord: Coord) -> Pr
 {
     let mut states = active.states;
     for k in 0..effect.added {
-        states[effect.held + k] = state_of(effect.numbers[k], coord);
+        states[effect.held + k] = state_of(effect.holds[k], coord);
     }
     Progress {
         active: Active {

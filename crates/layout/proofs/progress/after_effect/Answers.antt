@@ -16,7 +16,7 @@ loop-k-preserved c =
     let held = c.args.effect.now.held in
     let first : length (take held c.args.active.now.states) ≡ held = rw c.requires.1 (held_length c.args.active.now c.requires.0) in
     rw c.state_of.ensures (grown_more c.args.coord
-    (take held c.args.active.now.states) c.loop-k.states c.args.effect.now.numbers held c.loop-k.k first
+    (take held c.args.active.now.states) c.loop-k.states c.args.effect.now.holds held c.loop-k.k first
     (omega arith) (omega arith) c.loop-k.invariant)
 
 pub returns : goal.returns

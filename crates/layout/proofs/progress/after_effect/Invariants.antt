@@ -8,4 +8,4 @@ use Rattle.layout.proofs.progress.after_effect.Given as goal
 
 abbrev pub invariant-loop-k : goal.invariant-loop-k
 invariant-loop-k l =
-    l.states ≡ pad 64 no_state (take l.effect.held l.initial.states ++ map (state_of l.coord) (take l.k l.effect.numbers))
+    l.states ≡ pad 64 no_state (take l.effect.held l.initial.states ++ map (state_of l.coord) (take l.k l.effect.holds))

@@ -8,6 +8,6 @@ pub returns : goal.returns
 returns c =
     record {
       told = sym (lt-ltb _ _ c.if-self-ge-STATES.false);
-      yes = λ e img k. push_room img k c.args.self.now c.args.number _ c.if-self-ge-STATES.false;
+      yes = λ e img k. push_room img k c.args.self.now c.args.holds _ c.if-self-ge-STATES.false;
       no = λ e. cc;
     }

@@ -6,7 +6,7 @@ use Rattle.layout.proofs.effect.Effect.push.Goals as goal
 
 pub returns-then-not-add : goal.returns-then-not-add
 returns-then-not-add c =
-    λ img k. push_full img k c.args.self.now c.add.new.self c.args.number _ _ (c.add.ensures.no c.if-not-add.true)
+    λ img k. push_full img k c.args.self.now c.add.new.self c.args.holds _ _ (c.add.ensures.no c.if-not-add.true)
     c.note_dropped-self.ensures (ltb-false _ 64 (sym c.add.ensures.told ∙ c.if-not-add.true))
 
 pub returns-else-not-add : goal.returns-else-not-add
