@@ -5,7 +5,7 @@
 ghost use Rattle.std.specs.Prelude.{◌≡◌};
 ghost use Rattle.codes.specs.Codes.{legal, modifier, modifier_bit};
 
-// Names for bytes and no enum, since every byte has an answer.
+// Names for bytes and no enum: `is_modifier`, `as_modifier_bit` and `pressed` answer every byte, and an enum would ask more.
 #[derive(Clone, Copy)]
 pub struct KeyCode;
 

@@ -28,7 +28,8 @@ pub fn advance(stdin: Stdin, input: &mut [u8], line: &mut [u8], reading: Reading
     gather(input, line, reading)
 }
 
-// Reads to the end of what is read from, or to the buffer's, and says how many bytes came; or why a read failed.
+// Reads to the end of what is read from, or to the buffer's, and says how many bytes came; or why a read failed. The library's
+// `read_to_end` fills a `Vec`, and its `read_exact` does not say how many came.
 pub fn read_whole(from: &mut dyn Read, bytes: &mut [u8]) -> io::Result<usize>
     ensures { IfOk result (λ n. n ≤ length bytes.old) }
 {

@@ -1,4 +1,4 @@
-// keyberon's action.rs: the eight actions, now records of a table image, with the image's check, its lookups and the
+// keyberon's action.rs: the eight actions, as records of a table image, with the image's check, its lookups and the
 // table in use. Document 01, "The table image".
 // A `usize` of 32 bits holds every sum and product here: a word has 16 bits, an image whose header keeps its rules is at most
 // 6,160 bytes long, and the places that a lookup computes, which knows nothing of its image, are u64.

@@ -33,8 +33,8 @@ pub struct Keyboard {
     pub count: u16,
 }
 
-// An answer, and the keyboard after it. There are four of these, and not one over a type, since `due` and `changed` say more
-// than `answer`.
+// An answer, and the keyboard after it. There are four of these, and not one over a type: their fields are named by the calls'
+// clauses (`LentChanged` and its like), and `due` and `changed` say there what `answer` would not.
 #[repr(C)]
 #[derive(Clone, Copy)]
 pub struct Changed {

@@ -93,7 +93,8 @@ fn refusal_of(fault: Fault) -> Text
 
 // Answers lines to the end of the input, or until one cannot be written. Nothing says that the input has an end, so the loop
 // counts turns up to a number that no run comes to.
-// `replay` has the same loop: for both it would be a public function over a trait, which is longer.
+// `replay` has the same loop: for both it would be a public function over a closure, and a public function's answer is stated
+// in `Unique`, which has no form for a type parameter.
 fn answer_all(rt: &HostRuntime, image: &[u8]) -> io::Result<()> {
     let mut input = [0u8; INPUT];
     let mut line = [0u8; LINE];

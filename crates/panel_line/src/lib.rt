@@ -15,7 +15,7 @@ pub enum Line {
     Tick,
 }
 
-// The place of the first space, if there is one.
+// The place of the first space, if there is one. A function for its clause: written where it is asked, the proof did not close.
 fn space(bytes: &[u8]) -> Option<usize>
     ensures { result ≡ position (λ c. c == 32) bytes.now }
 {

@@ -22,10 +22,7 @@ fn make(size: Size, word: &[u8], debouncer: &mut Debouncer) -> Option<Text> {
     let start = picture(word, &mut room)?;
     let made = Debouncer::new(size.rows, size.columns, size.nb_bounce, start);
     *debouncer = made.debouncer;
-    let number = match made.answer {
-        Ok(()) => 0,
-        Err(fault) => fault.refusal.number(),
-    };
+    let number = made.answer.err().map_or(0, |fault| fault.refusal.number());
     Some(say::number(b"made ", usize::from(number)))
 }
 

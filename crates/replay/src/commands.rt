@@ -96,11 +96,11 @@ fn coord(i: &[u8], j: &[u8]) -> Option<Coord> {
 }
 
 fn press(i: &[u8], j: &[u8]) -> Option<Event> {
-    Some(Event::Press(byte(i)?, byte(j)?))
+    coord(i, j).map(|c| Event::Press(c.i, c.j))
 }
 
 fn release(i: &[u8], j: &[u8]) -> Option<Event> {
-    Some(Event::Release(byte(i)?, byte(j)?))
+    coord(i, j).map(|c| Event::Release(c.i, c.j))
 }
 
 fn table_of<'a>(words: &[&'a [u8]]) -> Option<Command<'a>> {

@@ -105,7 +105,7 @@ impl Desk {
 
 // Answers lines to the end of the input, or until one cannot be written. Nothing says that the input has an end, so the loop
 // counts turns up to a number that no run comes to.
-// `panel_body` has the same loop: for both it would be a public function over a trait, which is longer.
+// `panel_body` has the same loop, and its line says why.
 fn run(rt: &HostRuntime) -> io::Result<()> {
     let mut input = [0; INPUT];
     let mut line = [0; LINE];

@@ -18,7 +18,8 @@ fn entry_place(image: &[u8], e: u16) -> u64
 }
 
 impl Pair<'_> {
-    // So many words of each are the same.
+    // So many words of each are the same. `same` has such a loop too, which calls `same` again: a closure for it would be in
+    // the cycle of calls, with three measures more.
     fn same_words(&self, at: u64, other: u64, count: u16) -> bool
         requires { (at < 1048576) × (other < 1048576) }
         ensures { result ≡ alike (words_from self.now.first.now at count) (words_from self.now.second.now other count) }

@@ -18,7 +18,8 @@ fn put(out: &mut [u8], at: usize, byte: u8)
     }
 }
 
-// The digit of n that counts so many, unless it is a zero in front.
+// The digit of n that counts so many, unless it is a zero in front. `Text` has such digits too, in 1,024 bytes of its own: here
+// they go into the lent buffer.
 #[tactic(auto, unfolding(text::specs::Text::place_of))]
 fn lay_place(n: usize, unit: usize, out: &mut [u8], at: usize) -> usize
     requires { (0 < unit) × (at < 1000000) }

@@ -34,7 +34,8 @@ fn past_spaces(line: &[u8], at: usize) -> usize
 }
 
 // The numbers of a line without its newline, as words from word k on: how many it has, or nothing where a word is no number.
-// A `for` over `split` would take each space of a run for the end of an empty word.
+// A `for` over `split` would take each space of a run for the end of an empty word; with the empty ones left out it would take
+// a line that begins or ends with a space.
 pub(crate) fn read_line(line: &[u8], image: &mut [u8; LARGEST], k: usize) -> Option<usize>
     requires { k + length line.now < 2 ^ 64 }
     ensures { ReadsLine line.now k image.old result image.new }

@@ -91,7 +91,7 @@ fn unfit(line: usize) -> Fault
 }
 
 // The lines behind the first, which begin at a place of the text. A `for` over `split` would take what is behind the last newline for
-// a line.
+// a line, and one over `split_inclusive` has the newline in each, to be looked for and taken off again.
 fn read_lines(text: &[u8], image: &mut [u8; LARGEST], s: Shape, from: usize) -> Result<Shape, Fault>
     requires { (1 ≤ from) × (from ≤ length text.now) × Words s }
     ensures { ReadsLines (drop from text.now) s image.old result image.new }

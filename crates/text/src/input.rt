@@ -59,7 +59,7 @@ pub fn front(bytes: &[u8], n: usize) -> &[u8]
     bytes.get(..n).unwrap_or(&[])
 }
 
-// The place of the first newline, if there is one.
+// The place of the first newline, if there is one. A function for its clause: written where it is asked, the proof did not close.
 fn newline(bytes: &[u8]) -> Option<usize>
     ensures { result ≡ position (λ c. c == 10) bytes.now }
 {
@@ -76,7 +76,7 @@ fn line_length(bytes: &[u8]) -> usize
 }
 
 // More bytes behind the n that are there, and how many there are now. Where they do not fit nothing is written, and the
-// answer is one more than fits.
+// answer is one more than fits: `held_after` says so, and `front` gives no bytes for it.
 #[tactic(auto, unfolding(crate::specs::Input::held_after, crate::specs::Input::joined))]
 fn append(bytes: &[u8], into: &mut [u8], n: usize) -> usize
     ensures { Appends bytes.now n into.old result into.new }

@@ -13,7 +13,7 @@ pub fn unread() -> Text
     Text::new().put(b'?')
 }
 
-// Where something is refused: the refusal's number and place.
+// Where something is refused: the refusal's number and place. Numbers, since a `Fault` would ask more of callers.
 #[tactic(auto, unfolding(crate::specs::Text::saying), using(crate::proofs::Laws::refused_is))]
 pub fn refused(number: u8, place: usize) -> Text
     ensures { result ≡ saying (refused_line number place) }
