@@ -1,6 +1,6 @@
 -- An answer is known by its number, its place and its values, and what `events` hands back by its reply. Assumes nothing.
 use Prim.Native.Nat.{ℕ}
-use mathlib.Core.Bool.{false}
+use mathlib.Core.Bool.{Bool, false}
 use mathlib.Core.List.{List}
 use mathlib.Core.Path.{◌≡◌, ap}
 use Rattle.std.specs.Prelude.{Result, ⊤}
@@ -10,9 +10,7 @@ use Rattle.refusal.proofs.Said.{said_one}
 use Rattle.debounce.specs.Picture.{all_up}
 use Rattle.debounce.specs.Calls.{made_said, got_said, updated_said, Reply, handed}
 use Rattle.debounce.specs.declared.Debouncer.{Debouncer}
-use Rattle.debounce.specs.declared.Made.{Made}
-use Rattle.debounce.specs.declared.Updated.{Updated}
-use Rattle.debounce.specs.declared.Answered.{Answered}
+use Rattle.debounce.specs.declared.Handed.{Handed}
 
 -- what is said without the debouncer
 abbrev alone : Said Debouncer → Said ⊤
@@ -21,7 +19,7 @@ alone s = record { number = s.number; place = s.place; values = tt }
 abbrev bare : {A : Type 0} → Said (A × Debouncer) → Said A
 bare s = record { number = s.number; place = s.place; values = s.values.0 }
 
-pub made_one : (x y : Made) → made_said x ≡ made_said y → x ≡ y
+pub made_one : (x y : Handed ⊤) → made_said x ≡ made_said y → x ≡ y
 made_one x y e =
     let same = said_one tt x.answer y.answer (ap alone e) in
     λ i. record { answer = same i; debouncer = (e i).values }
@@ -29,12 +27,12 @@ made_one x y e =
 pub got_one : (x y : Result (List ℕ) Fault) → got_said x ≡ got_said y → x ≡ y
 got_one = said_one all_up
 
-pub updated_one : (x y : Updated) → updated_said x ≡ updated_said y → x ≡ y
+pub updated_one : (x y : Handed Bool) → updated_said x ≡ updated_said y → x ≡ y
 updated_one x y e =
     let same = said_one false x.answer y.answer (ap bare e) in
     λ i. record { answer = same i; debouncer = (e i).values.1 }
 
-pub handed_one : (x y : Answered) (v w : List ℕ) → handed x v ≡ handed y w → (x ≡ y) × (v ≡ w)
+pub handed_one : (x y : Handed ℕ) (v w : List ℕ) → handed x v ≡ handed y w → (x ≡ y) × (v ≡ w)
 handed_one x y v w e =
     let same = said_one 0 x.answer y.answer (ap (λ (r : Reply). bare r.answer) e) in
     ((λ i. record { answer = same i; debouncer = (e i).answer.values.1 }), ap (λ (r : Reply). r.buffer) e)

@@ -1,6 +1,6 @@
 -- What each call answers: document 01, Debounce, and the refusals 10 to 13 in the order that "Refusal numbers" gives.
 -- Assumes nothing.
-use Rattle.std.specs.Prelude.{ℕ, ◌*◌, Bool, false, cond, ◌&&◌, List, [], leb, ltb, length, take, Result, Ok, Err}
+use Rattle.std.specs.Prelude.{ℕ, ◌*◌, Bool, false, cond, ◌&&◌, List, [], leb, ltb, length, take, Result, Ok, Err, ⊤}
 use Rattle.refusal.specs.Verdict.{Verdict, fine, rule, granted}
 use Rattle.refusal.specs.Said.{Said, said}
 use Rattle.refusal.specs.declared.Refusal.TheVariants.{Scan, Bounce, Room, State}
@@ -11,9 +11,7 @@ use Rattle.debounce.specs.Picture.{all_up, padded, is_picture, is_scan}
 use Rattle.debounce.specs.Step as filter
 use Rattle.debounce.specs.Events.{changes, written}
 use Rattle.debounce.specs.declared.Debouncer.{Debouncer}
-use Rattle.debounce.specs.declared.Made.{Made}
-use Rattle.debounce.specs.declared.Updated.{Updated}
-use Rattle.debounce.specs.declared.Answered.{Answered}
+use Rattle.debounce.specs.declared.Handed.{Handed}
 
 -- the number of switches
 abbrev pub switches : Debouncer → ℕ
@@ -54,16 +52,16 @@ beside s b = record { number = s.number; place = s.place; values = (s.values, b)
 
 -- what is said of each answer: its number, its place and its values. Of a refused one the picture is all up, the change no and the
 -- count 0
-abbrev pub made_said : Made → Said Debouncer
+abbrev pub made_said : Handed ⊤ → Said Debouncer
 made_said m = let s = said tt m.answer in record { number = s.number; place = s.place; values = m.debouncer }
 
 abbrev pub got_said : Result (List ℕ) Fault → Said (List ℕ)
 got_said = said all_up
 
-abbrev pub updated_said : Updated → Said (Bool × Debouncer)
+abbrev pub updated_said : Handed Bool → Said (Bool × Debouncer)
 updated_said u = beside (said false u.answer) u.debouncer
 
-abbrev pub answered_said : Answered → Said (ℕ × Debouncer)
+abbrev pub answered_said : Handed ℕ → Said (ℕ × Debouncer)
 answered_said a = beside (said 0 a.answer) a.debouncer
 
 -- what a call to `events` hands back: what is said of its answer, and the buffer that it was lent
@@ -71,7 +69,7 @@ pub record Reply : Type 0 where
   pub answer : Said (ℕ × Debouncer)
   pub buffer : List ℕ
 
-abbrev pub handed : Answered → List ℕ → Reply
+abbrev pub handed : Handed ℕ → List ℕ → Reply
 handed a buffer = record { answer = answered_said a; buffer = buffer }
 
 -- where nothing is refused the first, else the second; and what is said of a call that gives the first or the second

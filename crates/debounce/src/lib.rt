@@ -23,6 +23,7 @@ use verdicts::making;
 
 // The accepted picture, the candidate, for how many scans the candidate has stood, and the size. A switch that is down is
 // 1, one that is up 0, row by row; places past the last switch are 0.
+// Callers hand it in as they like, and a call answers State where it is out of order (`state_good`): so no invariant.
 #[derive(Clone, Copy, PartialEq, Eq)]
 pub struct Debouncer {
     pub cur: [u8; 128],
@@ -33,26 +34,21 @@ pub struct Debouncer {
     pub columns: usize,
 }
 
-// A refused making gives a debouncer too, by document 01: so the answer and it, and not one `Result`.
+// An answer, and the debouncer after it. A refused making gives a debouncer too, by document 01: so both, and not one `Result`.
 #[derive(Clone, Copy, PartialEq, Eq)]
-pub struct Made {
-    pub answer: Result<(), Fault>,
+pub struct Handed<T> {
+    pub answer: Result<T, Fault>,
     pub debouncer: Debouncer,
 }
+
+// Of a making.
+pub type Made = Handed<()>;
 
 // Whether the accepted picture changed.
-#[derive(Clone, Copy, PartialEq, Eq)]
-pub struct Updated {
-    pub answer: Result<bool, Fault>,
-    pub debouncer: Debouncer,
-}
+pub type Updated = Handed<bool>;
 
 // How many events were written, three bytes each.
-#[derive(Clone, Copy, PartialEq, Eq)]
-pub struct Answered {
-    pub answer: Result<usize, Fault>,
-    pub debouncer: Debouncer,
-}
+pub type Answered = Handed<usize>;
 
 // What one scan leaves, and whether the accepted picture changed.
 #[derive(Clone, Copy)]
@@ -155,6 +151,7 @@ impl Debouncer {
     }
 
     // Takes a scan, and answers whether the accepted picture changed.
+    // Here and in `events` the arm of Err is alike: a refusal hands the debouncer back, which `?` cannot.
     pub fn update(self, scan: &[u8]) -> Updated
         ensures { updated_said result ≡ update_reply self scan.now }
     {

@@ -15,7 +15,7 @@ pub(crate) struct Sizes {
     ghost few_columns: { columns ≤ 16 },
 }
 
-// Whether sizes and nb_bounce are legal.
+// Whether sizes and nb_bounce are legal. Three numbers, as `new` takes them by document 01: `Sizes` is made where they are good.
 #[tactic(auto, unfolding(crate::specs::Calls::bounce_good, crate::specs::Calls::sizes_good))]
 fn are_good(rows: usize, columns: usize, nb_bounce: u16) -> bool
     ensures is { result ≡ bounce_good rows columns nb_bounce }

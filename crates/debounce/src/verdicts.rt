@@ -8,6 +8,7 @@ use super::Debouncer;
 use super::sizes::Sizes;
 use refusal::{Fault, Refusal, rule};
 
+// Takes three numbers, as `new` does by document 01: `Sizes` is made of them where they are good.
 #[tactic(auto, unfolding(refusal::specs::Verdict::rule, crate::specs::Calls::making_verdict))]
 pub(crate) fn making(rows: usize, columns: usize, nb_bounce: u16, start: &[u8]) -> Result<(), Fault>
     ensures verdict { result ≡ making_verdict rows columns nb_bounce start.now }
@@ -17,7 +18,8 @@ pub(crate) fn making(rows: usize, columns: usize, nb_bounce: u16, start: &[u8]) 
     rule(sizes.is_scan(start), Refusal::Scan, 0)
 }
 
-// The answers have the sizes and not the debouncer or the scan's places, which would be copied at each `?`.
+// The answers have the sizes and not the debouncer or the scan's places, which would be copied at each `?`: so `IsLegal` is a
+// clause. `length scan ≤ 128` is one too: a `Scan` would be a slice and its bound, which each call reads once: no plainer.
 impl Debouncer {
     // Whether since and the pictures of a debouncer of these sizes break no rule.
     fn is_kept(self, sizes: Sizes) -> bool
