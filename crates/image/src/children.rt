@@ -64,6 +64,7 @@ impl Body<'_> {
 
     // What the children of record n weigh, which so many words from a byte offset number, all lower, and whether one is open.
     // Each weighs 1, and more by its codes, or by recursion over its own children. A child that has none is no call.
+    // That a record is formed is a clause and no type: it is about one record of the image, and this goes from record to record.
     pub(crate) fn weigh(&self, n: usize, at: usize, count: usize) -> Weighed
         requires { Formed self.now.image.now n × ChildWords self.now.image.now n at count }
         ensures { result ≡ weighed_of (children_at self.now.image.now at count) }

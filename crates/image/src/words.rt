@@ -16,33 +16,35 @@ pub struct Shape {
 }
 
 // The word at a place that the image has: it costs no test.
+#[tactic(auto, unfolding(crate::specs::Words::word_at))]
 pub(crate) fn word(image: &[u8], at: usize) -> u16
     requires { at + 1 < length image.now }
     ensures { result ≡ word_at image.now at }
 {
-    (image[at] as u16) + 256 * (image[at + 1] as u16)
+    u16::from_le_bytes([image[at], image[at + 1]])
 }
 
 // The byte at a place, and 0 past the end. Places are of 64 bits here: an image that was not accepted names some that no
 // `usize` of 32 bits holds.
-fn byte_or_zero(image: &[u8], at: u64) -> u16
-    ensures { (result ≡ get_or image.now at 0) × (result < 256) }
+fn byte_or_zero(image: &[u8], at: u64) -> u8
+    ensures { result ≡ get_or image.now at 0 }
 {
     if at < (image.len() as u64) {
-        image[at as usize] as u16
+        image[at as usize]
     } else {
         0
     }
 }
 
 // The word at any place, and 0 past the end: for the lookups, and for those above, which know nothing of their image.
+#[tactic(auto, unfolding(crate::specs::Words::word_at), using(std::proofs::lemmas::List::get_or_past))]
 pub fn word_or_zero(image: &[u8], at: u64) -> u16
     ensures { result ≡ word_at image.now at }
 {
     if (image.len() as u64) <= at {
         return 0;
     }
-    byte_or_zero(image, at) + 256 * byte_or_zero(image, at + 1)
+    u16::from_le_bytes([byte_or_zero(image, at), byte_or_zero(image, at + 1)])
 }
 
 // The header, read once: the numbers are handed on from here.

@@ -14,17 +14,11 @@ pub(crate) fn decimal(n: usize, out: &mut [u8; 20]) -> usize
     k
 }
 
-// How many digits n takes, one at least. Each turn divides: there is no range to go over.
+// How many digits n takes, one at least.
 fn digit_count(n: usize) -> usize
     ensures { IsDigitCount 10 1 n result }
 {
-    let mut k = 1;
-    let mut rest = n / 10;
-    while rest > 0 {
-        rest /= 10;
-        k += 1;
-    }
-    k
+    n.checked_ilog10().map_or(1, |k| k as usize + 1)
 }
 
 // Puts the last k digits of n at the start of out.
