@@ -65,11 +65,11 @@ module _ (img : List ℕ) where
       }
 
   -- a call that began with no notes, and a queue that holds the list l
-  pub finished : (lay : Layout) (none : Notes) (end : Progress) (queue : Queue) (l : List Queued) (f : Model → Done) → none ≡ no_notes → Lined queue → list_in queue ≡ l
-      → Steps img (record { active = lay.active; notes = none }) end queue f → Finished img end queue (f (with_queue l (unpack img lay)))
-  finished lay none end queue l f en t e d =
-      let listed : Did img none end (list_in queue) (f (model_of img lay.active l)) = subst (λ (x : List Queued). Did img none end (list_in queue) (f (model_of img lay.active x))) e d in
-      (t, subst (λ (n : Notes). Did img n end (list_in queue) (f (model_of img lay.active l))) en listed)
+  pub finished : (lay : Layout) (begun end : Progress) (queue : Queue) (l : List Queued) (f : Model → Done) → begun ≡ record { active = lay.active; notes = no_notes } → Lined queue → list_in queue ≡ l
+      → Steps img begun end queue f → Finished img end queue (f (with_queue l (unpack img lay)))
+  finished lay begun end queue l f en t e d =
+      let first : Did img no_notes end (list_in queue) (f (model_of img lay.active (list_in queue))) = subst (λ (b : Progress). Steps img b end queue f) en d in
+      (t, subst (λ (x : List Queued). Did img no_notes end (list_in queue) (f (model_of img lay.active x))) e first)
 
   pub finished_as : {end : Progress} {queue : Queue} {x y : Done} → Finished img end queue x → x ≡ y → Finished img end queue y
   finished_as w e = (w.0, did_as w.1 e)
@@ -161,18 +161,18 @@ module _ (img : List ℕ) (active : Active) (notes : Notes) (queue : Queue) (w :
   did_up end h d = did_as img d (sym (wait_up (table_of img) _ (w.left - 1) (omega arith)))
 
 -- a tick of a whole layout, where something waits
-pub tick_goes : (img : List ℕ) (lay : Layout) (none : Notes) (w : WaitingState) (queue : Queue) (end : Progress) → none ≡ no_notes → lay.active.waiting ≡ Some w → Lined queue → list_in queue ≡ older (list_in lay.queue)
-    → Steps img (record { active = lay.active; notes = none }) end queue (waited_one img w) → Finished img end queue (tick (table_of img) (unpack img lay))
-tick_goes img lay none w queue end en e t eq d =
-    finished_as img (finished img lay none end queue (older (list_in lay.queue)) (waited_one img w) en t eq d)
+pub tick_goes : (img : List ℕ) (lay : Layout) (begun : Progress) (w : WaitingState) (queue : Queue) (end : Progress) → begun ≡ record { active = lay.active; notes = no_notes } → lay.active.waiting ≡ Some w → Lined queue → list_in queue ≡ older (list_in lay.queue)
+    → Steps img begun end queue (waited_one img w) → Finished img end queue (tick (table_of img) (unpack img lay))
+tick_goes img lay begun w queue end en e t eq d =
+    finished_as img (finished img lay begun end queue (older (list_in lay.queue)) (waited_one img w) en t eq d)
     (sym (tick_on (table_of img) (unpack img lay) w.coord w.left w.number _ _ (ap (waiting_of img) e)))
 
 -- an event of a whole layout: it is entered by a step, and then what waits for its release becomes tap
-pub event_goes : (img : List ℕ) (lay : Layout) (none : Notes) (e : Event) (queue : Queue) (end : Progress) (l : List Queued) (enter : Model → Done) → none ≡ no_notes → Lined queue → list_in queue ≡ l
+pub event_goes : (img : List ℕ) (lay : Layout) (begun : Progress) (e : Event) (queue : Queue) (end : Progress) (l : List Queued) (enter : Model → Done) → begun ≡ record { active = lay.active; notes = no_notes } → Lined queue → list_in queue ≡ l
     → entered (table_of img) e (list_in lay.queue) (unpack img lay) ≡ enter (with_queue l (unpack img lay))
-    → Steps img (record { active = lay.active; notes = none }) end queue (λ (m : Model). after (enter m) (released (table_of img) e (enter m).layout))
+    → Steps img begun end queue (λ (m : Model). after (enter m) (released (table_of img) e (enter m).layout))
     → Finished img end queue (event (table_of img) e (unpack img lay))
 unfolding event
-event_goes img lay none e queue end l enter en t el eq d =
-    finished_as img (finished img lay none end queue l (λ (m : Model). after (enter m) (released (table_of img) e (enter m).layout)) en t el d)
+event_goes img lay begun e queue end l enter en t el eq d =
+    finished_as img (finished img lay begun end queue l (λ (m : Model). after (enter m) (released (table_of img) e (enter m).layout)) en t el d)
     (sym (ap (λ (r : Done). after r (released (table_of img) e r.layout)) eq))

@@ -9,7 +9,6 @@ ghost use Rattle.layout.specs.Inside.{Ready, verdict_of};
 use super::accepted::Accepted;
 use super::active::{Active, State};
 use super::answer::{Answer, Answered, answer_of};
-use super::notes::no_notes;
 use super::progress::Progress;
 use super::queue::{Queue, Stacked, age, append, shift};
 use event::Event;
@@ -70,10 +69,7 @@ impl Layout {
                 layout: self,
             },
             Ok(table) => {
-                let begun = Progress {
-                    active: self.active,
-                    notes: no_notes(),
-                };
+                let begun = Progress::new(self.active);
                 if self.queue.queued < Layout::QUEUE {
                     let queue = append(self.queue, event);
                     return answer_of(table.tap_released(&begun, &queue, event), queue, out);
@@ -96,10 +92,7 @@ impl Layout {
                 layout: self,
             },
             Ok(table) => {
-                let begun = Progress {
-                    active: self.active,
-                    notes: no_notes(),
-                };
+                let begun = Progress::new(self.active);
                 let queue = age(&self.queue);
                 if let Some(w) = self.active.waiting {
                     return answer_of(table.tick_waiting(&begun, &queue, w), queue, out);
@@ -119,10 +112,6 @@ impl Layout {
         ensures { shown result self out.new ≡ keycodes_reply image.now self out.old }
     {
         judge(image, &self, out.len())?;
-        let begun = Progress {
-            active: self.active,
-            notes: no_notes(),
-        };
-        answer_of(begun, self.queue, out).answer
+        answer_of(Progress::new(self.active), self.queue, out).answer
     }
 }

@@ -6,7 +6,7 @@ ghost use Rattle.layout.specs.Effects.{state_of, Grown};
 
 use super::active::{Active, State};
 use super::effect::{Effect, Holds};
-use super::notes::Notes;
+use super::notes::{Notes, no_notes};
 use event::Coord;
 
 // What a call has changed, and what it has done.
@@ -14,6 +14,20 @@ use event::Coord;
 pub(crate) struct Progress {
     pub active: Active,
     pub notes: Notes,
+}
+
+impl Progress {
+    ghost use Rattle.layout.specs.Notes.{no_notes as none};
+
+    // A call begins with nothing done.
+    pub(crate) fn new(active: Active) -> Progress
+        ensures { result ≡ record { active = active; notes = none } }
+    {
+        Progress {
+            active,
+            notes: no_notes(),
+        }
+    }
 }
 
 // The state that holds this, at its coordinates.

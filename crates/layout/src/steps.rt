@@ -24,9 +24,7 @@ impl Accepted<'_> {
     {
         let i = coord.i as usize;
         let j = coord.j as usize;
-        let Some(n) = cell_at(self.image, current_layer(active), i, j) else {
-            return None;
-        };
+        let n = cell_at(self.image, current_layer(active), i, j)?;
         match action_at(self.image, n as usize) {
             Action::Trans => cell_at(self.image, active.default_layer, i, j),
             _ => Some(n),

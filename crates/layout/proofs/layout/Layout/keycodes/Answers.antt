@@ -5,7 +5,6 @@ use Rattle.std.specs.Prelude.{Err}
 use Rattle.layout.specs.Model.{still}
 use Rattle.layout.specs.Packed.{list_in}
 use Rattle.layout.specs.Calls.{Reply}
-use Rattle.layout.specs.declared.progress.Progress.{Progress}
 use Rattle.layout.proofs.Moves.{did_nothing, finished}
 use Rattle.layout.proofs.Calls.{call_refused, call_finished}
 use Rattle.layout.proofs.layout.Layout.keycodes.Goals as goal
@@ -21,10 +20,9 @@ pub returns : goal.returns
 returns c =
     let img = c.args.image.now in
     let lay = c.args.self in
-    let none = c.no_notes.result in
-    let begun : Progress = record { active = lay.active; notes = none } in
+    let begun = c.new.result in
     let q = list_in lay.queue in
     let r = c.in_ok-judge.ensures.ready.0 in
     let whole = call_finished img lay begun lay.queue still c.args.out.now _ c.answer_of.result c.judge.ensures.is c.in_ok-judge.was
-    (finished img lay none begun lay.queue q still c.no_notes.ensures r.lined refl (did_nothing img lay.active none q r.tidy)) c.answer_of.ensures in
+    (finished img lay begun begun lay.queue q still c.new.ensures r.lined refl (did_nothing img begun.active begun.notes q (rw c.new.ensures r.tidy))) c.answer_of.ensures in
     ap (λ (x : Reply). record { told = x.told; layout = lay; buffer = x.buffer }) whole

@@ -10,7 +10,6 @@ use Rattle.layout.specs.Model.{Queued, age_of, still}
 use Rattle.layout.specs.Steps.{act, older, tick}
 use Rattle.layout.specs.Packed.{list_in, waiting_of, queued_of, model_of, unpack, no_stacked}
 use Rattle.layout.proofs.Parts.{list_length}
-use Rattle.layout.specs.declared.progress.Progress.{Progress}
 use Rattle.layout.proofs.Moves.{did_nothing, finished, finished_as, tick_none, tick_some, tick_goes}
 use Rattle.layout.proofs.Calls.{call_refused, call_finished}
 use Rattle.layout.proofs.layout.Layout.tick.Goals as goal
@@ -24,7 +23,7 @@ returns-in-Some c =
     let img = c.args.image.now in
     call_finished img c.args.self c.tick_waiting.result c.age-queue.result (tick (table_of img)) c.args.out.now _ c.answer_of.result
     c.judge.ensures.is c.in-Ok.is
-    (tick_goes img c.args.self c.no_notes.result _ c.age-queue.result c.tick_waiting.result c.no_notes.ensures
+    (tick_goes img c.args.self c.new-begun.result _ c.age-queue.result c.tick_waiting.result c.new-begun.ensures
     c.in-Some.is c.age-queue.ensures.0 c.age-queue.ensures.1 (rw c.in-Ok.ensures.of at c.tick_waiting.ensures))
     c.answer_of.ensures
 
@@ -35,11 +34,10 @@ returns-then-queue-eq0 c =
     let lay = c.args.self in
     let long = list_length c.age-queue.result c.age-queue.ensures.0 in
     let q = c.age-queue.result in
-    let none = c.no_notes.result in
-    let begun : Progress = record { active = lay.active; notes = none } in
+    let begun = c.new-begun.result in
     call_finished img lay begun q (tick (table_of img)) c.args.out.now _ c.answer_of-then-queue-eq0.result c.judge.ensures.is c.in-Ok.is
-    (finished_as img (finished img lay none begun q (older (list_in lay.queue)) still c.no_notes.ensures c.age-queue.ensures.0 c.age-queue.ensures.1
-    (did_nothing img lay.active none (list_in q) c.in-Ok.ensures.ready.0.tidy))
+    (finished_as img (finished img lay begun begun q (older (list_in lay.queue)) still c.new-begun.ensures c.age-queue.ensures.0 c.age-queue.ensures.1
+    (did_nothing img begun.active begun.notes (list_in q) (rw c.new-begun.ensures c.in-Ok.ensures.ready.0.tidy)))
     (sym (tick_none (table_of img) (unpack img lay) (ap (waiting_of img) c.in_default.is)
     (sym (ap length c.age-queue.ensures.1) ∙ long ∙ c.if-queue-eq0.true))))
     c.answer_of-then-queue-eq0.ensures
@@ -60,8 +58,8 @@ returns-else-queue-eq0 c =
     (get_or-map queued_of (take aged.queued aged.stacked) 0 no_stacked) ∙ ap
     (λ (x : List Queued). get_or x 0 (queued_of no_stacked)) c.age-queue.ensures.1 in
     call_finished img lay c.unstack.result c.shift-rest.result (tick T) c.args.out.now _ c.answer_of-in-Ok.result c.judge.ensures.is c.in-Ok.is
-    (finished_as img (finished img lay c.no_notes.result c.unstack.result c.shift-rest.result (drop 1 q)
-    (act T old.event old.since) c.no_notes.ensures c.shift-rest.ensures.0
+    (finished_as img (finished img lay c.new-begun.result c.unstack.result c.shift-rest.result (drop 1 q)
+    (act T old.event old.since) c.new-begun.ensures c.shift-rest.ensures.0
     (c.shift-rest.ensures.1 ∙ ap (drop 1) c.age-queue.ensures.1) (rw c.in-Ok.ensures.of at c.unstack.ensures))
     (ap (λ (x : Queued). act T x.event (age_of x) (model_of img lay.active (drop 1 q))) first
     ∙ sym (tick_some T (unpack img lay) (ap (waiting_of img) c.in_default.is)
