@@ -5,7 +5,8 @@ ghost use Rattle.std.specs.Prelude.{◌≡◌, ℕ, List};
 ghost use Rattle.layout.specs.Model.{with_states, with_waiting};
 ghost use Rattle.layout.specs.Steps.{coord_in, release as release_of, current, held};
 ghost use Rattle.layout.specs.Packed.{states_in, waiting_of};
-ghost use Rattle.layout.specs.Inside.{Tidy, Moves};
+ghost use Rattle.layout.specs.Order.{Tidy};
+ghost use Rattle.layout.specs.Inside.{Moves};
 
 use super::layout::Layout;
 use event::Coord;

@@ -4,7 +4,7 @@
 // Assumes nothing.
 ghost use Rattle.layout.specs.Room.{HasRoom};
 
-use super::active::{Active, WaitingState};
+use super::active::{Active, State, WaitingState};
 use super::layout::Layout;
 use super::notes::{Decision, Notes, Way, note_decision, note_dropped};
 use event::Coord;
@@ -29,6 +29,22 @@ pub(crate) struct Effect {
     ghost roomy: { HasRoom held added holds },
 }
 
+impl Holds {
+    ghost use Rattle.std.specs.Prelude.{◌≡◌};
+    ghost use Rattle.layout.specs.Effects.{state_of};
+
+    // The state that holds this, at its coordinates.
+    #[tactic(auto, unfolding(crate::specs::Effects::state_of))]
+    pub(crate) fn at(self, coord: Coord) -> State
+        ensures { result ≡ state_of coord self }
+    {
+        match self {
+            Holds::Code(keycode) => State::NormalKey { keycode, coord },
+            Holds::Layer(value) => State::LayerModifier { value, coord },
+        }
+    }
+}
+
 impl Effect {
     ghost use Rattle.std.specs.Prelude.{◌≡◌, true, cond, ltb};
     ghost use Rattle.codes.specs.Codes.{legal};
@@ -36,7 +52,7 @@ impl Effect {
     ghost use Rattle.layout.specs.Model as Model;
     ghost use Rattle.layout.specs.Model.{still, marked, with_base, with_waiting};
     ghost use Rattle.layout.specs.Packed.{waiting_of, waits_at};
-    ghost use Rattle.layout.specs.Inside.{Tidy};
+    ghost use Rattle.layout.specs.Order.{Tidy};
     ghost use Rattle.layout.specs.Effects.{state_of, Begun, Added, Pushes, Leaves};
 
     // Before an action runs.

@@ -4,14 +4,15 @@ ghost use Rattle.std.specs.Prelude.{◌≡◌};
 ghost use Rattle.image.specs.Table.{table_of};
 ghost use Rattle.layout.specs.Steps.{released as released_of, overflow as overflow_of};
 ghost use Rattle.layout.specs.Packed.{queued_of};
-ghost use Rattle.layout.specs.Inside.{Tidy, Ready, PressedTo, Steps, unstacked, becomes as becomes_of, waited_one};
+ghost use Rattle.layout.specs.Order.{Tidy, Lined};
+ghost use Rattle.layout.specs.Inside.{PressedTo, Steps, unstacked, becomes as becomes_of, waited_one};
 
 use super::accepted::Accepted;
 use super::action::Setting;
 use super::active::{Active, WaitingState, current_layer, release, with_waiting};
 use super::effect::Effect;
 use super::notes::{Way, note_acted};
-use super::progress::{Progress, after_effect};
+use super::progress::Progress;
 use super::queue::{Queue, Stacked, find_release, is_release};
 use event::{Coord, Event};
 use image::{Action, action_at, cell_at};
@@ -33,19 +34,24 @@ impl Accepted<'_> {
 
     // An event that left the queue is acted on, with its age.
     pub(crate) fn unstack(&self, begun: &Progress, queue: &Queue, stacked: Stacked) -> Progress
-        requires { Ready begun.now.active queue.now }
+        requires { Lined queue.now }
         ensures { Steps self.now.image.now begun.now result queue.now (unstacked self.now.image.now stacked) }
     {
         let notes = note_acted(begun.notes, stacked.event);
         match stacked.event {
-            Event::Release(i, j) => Progress {
-                active: release(&begun.active, Coord { i, j }),
-                notes,
-            },
+            Event::Release(i, j) => {
+                return Progress {
+                    active: release(&begun.active, Coord { i, j }),
+                    notes,
+                };
+            }
             Event::Press(i, j) => {
                 let coord = Coord { i, j };
                 let Some(n) = self.press_as_action(&begun.active, coord) else {
-                    return Progress { notes, ..*begun };
+                    return Progress {
+                        active: begun.active,
+                        notes,
+                    };
                 };
                 let setting = Setting {
                     coord,
@@ -54,7 +60,7 @@ impl Accepted<'_> {
                 };
                 let mut effect = Effect::new(&begun.active, notes);
                 self.do_action(&mut effect, n, setting);
-                after_effect(&begun.active, &effect, coord)
+                begun.after_effect(&effect, coord)
             }
         }
     }
@@ -62,7 +68,7 @@ impl Accepted<'_> {
     // What waits becomes hold or tap, which is keyberon's waiting_into_hold and waiting_into_tap: with no delay, and with the
     // first queued release of its key.
     fn becomes(&self, begun: &Progress, queue: &Queue, w: WaitingState, way: Way) -> Progress
-        requires { Ready begun.now.active queue.now }
+        requires { Lined queue.now }
         ensures { Steps self.now.image.now begun.now result queue.now (becomes_of self.now.image.now way w) }
     {
         let setting = Setting {
@@ -72,12 +78,12 @@ impl Accepted<'_> {
         };
         let mut effect = Effect::new(&begun.active, begun.notes);
         self.decide(&mut effect, w.number, setting, way);
-        after_effect(&begun.active, &effect, w.coord)
+        begun.after_effect(&effect, w.coord)
     }
 
     // The oldest event left a full queue: what waits becomes hold, then that event is acted on.
     pub(crate) fn overflow(&self, begun: &Progress, queue: &Queue, oldest: Stacked) -> Progress
-        requires { Ready begun.now.active queue.now }
+        requires { Lined queue.now }
         ensures { Steps self.now.image.now begun.now result queue.now (overflow_of (table_of self.now.image.now) (queued_of oldest)) }
     {
         let Some(w) = begun.active.waiting else {
@@ -89,7 +95,7 @@ impl Accepted<'_> {
 
     // If the new event releases a waiting key, it becomes tap. The release stays queued.
     pub(crate) fn tap_released(&self, begun: &Progress, queue: &Queue, event: Event) -> Progress
-        requires { Ready begun.now.active queue.now }
+        requires { Lined queue.now }
         ensures { Steps self.now.image.now begun.now result queue.now (released_of (table_of self.now.image.now) event) }
     {
         match begun.active.waiting {
@@ -100,7 +106,7 @@ impl Accepted<'_> {
 
     // A tick while a hold-tap waits: it has a tick less, and becomes hold where none is left.
     pub(crate) fn tick_waiting(&self, begun: &Progress, queue: &Queue, w: WaitingState) -> Progress
-        requires { Ready begun.now.active queue.now }
+        requires { Lined queue.now }
         ensures { Steps self.now.image.now begun.now result queue.now (waited_one self.now.image.now w) }
     {
         let left = w.left.saturating_sub(1);
@@ -108,7 +114,7 @@ impl Accepted<'_> {
             let waits = WaitingState { left, ..w };
             return Progress {
                 active: with_waiting(&begun.active, Some(waits)),
-                ..*begun
+                notes: begun.notes,
             };
         }
         self.becomes(begun, queue, w, Way::Hold)
