@@ -4,9 +4,10 @@
 // Assumes nothing.
 ghost use Rattle.layout.specs.Room.{HasRoom};
 
-use super::active::{Active, State, WaitingState};
+use super::active::{State, WaitingState};
 use super::layout::Layout;
 use super::notes::{Decision, Notes, Way, note_decision, note_dropped};
+use super::progress::Progress;
 use event::Coord;
 
 // What a state holds, without the coordinates of its key.
@@ -52,20 +53,18 @@ impl Effect {
     ghost use Rattle.layout.specs.Model as Model;
     ghost use Rattle.layout.specs.Model.{still, marked, with_base, with_waiting};
     ghost use Rattle.layout.specs.Packed.{waiting_of, waits_at};
-    ghost use Rattle.layout.specs.Order.{Tidy};
     ghost use Rattle.layout.specs.Effects.{state_of, Begun, Added, Pushes, Leaves};
 
     // Before an action runs.
-    pub(crate) fn new(active: &Active, notes: Notes) -> Effect
-        requires { Tidy active.now }
-        ensures { Begun active.now notes result }
+    pub(crate) fn new(begun: &Progress, notes: Notes) -> Effect
+        ensures { Begun begun.now.active notes result }
     {
         Effect {
-            default_layer: active.default_layer,
-            held: active.len,
+            default_layer: begun.active.default_layer,
+            held: begun.active.len,
             holds: [Holds::Code(0); Layout::STATES],
             added: 0,
-            waiting: active.waiting,
+            waiting: begun.active.waiting,
             notes,
         }
     }

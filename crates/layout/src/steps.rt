@@ -4,12 +4,12 @@ ghost use Rattle.std.specs.Prelude.{◌≡◌};
 ghost use Rattle.image.specs.Table.{table_of};
 ghost use Rattle.layout.specs.Steps.{released as released_of, overflow as overflow_of};
 ghost use Rattle.layout.specs.Packed.{queued_of};
-ghost use Rattle.layout.specs.Order.{Tidy, Lined};
+ghost use Rattle.layout.specs.Order.{Lined};
 ghost use Rattle.layout.specs.Inside.{PressedTo, Steps, unstacked, becomes as becomes_of, waited_one};
 
 use super::accepted::Accepted;
 use super::action::Setting;
-use super::active::{Active, WaitingState, current_layer, release, with_waiting};
+use super::active::{WaitingState, current_layer, release, with_waiting};
 use super::effect::Effect;
 use super::notes::{Way, note_acted};
 use super::progress::Progress;
@@ -19,15 +19,14 @@ use image::{Action, action_at, cell_at};
 
 impl Accepted<'_> {
     // The record that a press runs: Trans takes the default layer's cell. Outside the table there is none.
-    fn press_as_action(&self, active: &Active, coord: Coord) -> Option<u16>
-        requires { Tidy active.now }
-        ensures { PressedTo self.now.image.now active.now coord result }
+    fn press_as_action(&self, begun: &Progress, coord: Coord) -> Option<u16>
+        ensures { PressedTo self.now.image.now begun.now.active coord result }
     {
         let i = coord.i as usize;
         let j = coord.j as usize;
-        let n = cell_at(self.image, current_layer(active), i, j)?;
+        let n = cell_at(self.image, current_layer(begun), i, j)?;
         match action_at(self.image, n as usize) {
-            Action::Trans => cell_at(self.image, active.default_layer, i, j),
+            Action::Trans => cell_at(self.image, begun.active.default_layer, i, j),
             _ => Some(n),
         }
     }
@@ -41,13 +40,13 @@ impl Accepted<'_> {
         match stacked.event {
             Event::Release(i, j) => {
                 return Progress {
-                    active: release(&begun.active, Coord { i, j }),
+                    active: release(begun, Coord { i, j }),
                     notes,
                 };
             }
             Event::Press(i, j) => {
                 let coord = Coord { i, j };
-                let Some(n) = self.press_as_action(&begun.active, coord) else {
+                let Some(n) = self.press_as_action(begun, coord) else {
                     return Progress {
                         active: begun.active,
                         notes,
@@ -58,7 +57,7 @@ impl Accepted<'_> {
                     delay: stacked.since,
                     found: find_release(queue, coord),
                 };
-                let mut effect = Effect::new(&begun.active, notes);
+                let mut effect = Effect::new(begun, notes);
                 self.do_action(&mut effect, n, setting);
                 begun.after_effect(&effect, coord)
             }
@@ -76,7 +75,7 @@ impl Accepted<'_> {
             delay: 0,
             found: find_release(queue, w.coord),
         };
-        let mut effect = Effect::new(&begun.active, begun.notes);
+        let mut effect = Effect::new(begun, begun.notes);
         self.decide(&mut effect, w.number, setting, way);
         begun.after_effect(&effect, w.coord)
     }
@@ -113,7 +112,7 @@ impl Accepted<'_> {
         if 0 < left {
             let waits = WaitingState { left, ..w };
             return Progress {
-                active: with_waiting(&begun.active, Some(waits)),
+                active: with_waiting(begun, Some(waits)),
                 notes: begun.notes,
             };
         }
