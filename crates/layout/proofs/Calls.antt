@@ -21,7 +21,8 @@ use Rattle.layout.specs.Packed.{pad, no_state, no_stacked, states_in, queued_of,
 use Rattle.layout.specs.State.{state_good}
 use Rattle.layout.specs.Notes.{no_notes, noted}
 use Rattle.layout.specs.Calls.{verdict_in, judged_of, answer_of, layout_after, buffered, handed, replied}
-use Rattle.layout.specs.Inside.{Tidy, Lined, Ready, Handed, verdict_of}
+use Rattle.layout.specs.Order.{Tidy, Lined, Ready}
+use Rattle.layout.specs.Inside.{Handed, verdict_of}
 use Rattle.layout.specs.declared.active.State.{State}
 use Rattle.layout.specs.declared.active.Active.{Active}
 use Rattle.layout.specs.declared.active.WaitingState.{WaitingState}
@@ -98,7 +99,7 @@ unfolding replied answer_of layout_after buffered
 call_finished img lay end queue step buffer after a j o w h =
     let done = step (unpack img lay) in
     let held : states_in end.active ≡ done.layout.states = ap (λ (m : Model). m.states) w.1.is in
-    let whole : record { active = end.active; queue = queue } ≡ pack done.layout = packed img end.active queue w.1.tidy w.0 ∙ ap pack w.1.is in
+    let whole : record { active = end.active; queue = queue } ≡ pack done.layout = packed img end.active queue end.tidy w.0 ∙ ap pack w.1.is in
     let answers : a ≡ record { answer = Ok (record { codes = length (codes done.layout.states); notes = noted no_notes done }); layout = pack done.layout } =
     h.0 ∙ (λ i. record { answer = Ok (record { codes = length (codes (held i)); notes = w.1.notes i }); layout = whole i }) in
     let bytes : after ≡ laid (codes done.layout.states) buffer = h.1 ∙ ap (λ (s : List State). laid (codes s) buffer) held in

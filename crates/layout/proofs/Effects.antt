@@ -17,7 +17,8 @@ use Rattle.layout.specs.Model.{Queued, Model, Waiting, Idle, Begun, Decided, Don
 use Rattle.layout.specs.Actions.{push}
 use Rattle.layout.specs.Packed.{pad, no_state, states_in, waiting_of, model_of}
 use Rattle.layout.specs.Notes.{noted, noted_marks, note_decision, note_dropped}
-use Rattle.layout.specs.Inside.{Tidy, Did}
+use Rattle.layout.specs.Order.{Tidy}
+use Rattle.layout.specs.Inside.{Did}
 use Rattle.layout.specs.Room.{HasRoom}
 use Rattle.layout.specs.Effects.{state_of, effect_in, Begun as BeginsSo, Effected, Grown}
 use Rattle.layout.specs.declared.active.State.{State}
@@ -46,22 +47,29 @@ grown_more c l arr a h k e lt in-a ea =
     let more : l ++ map (state_of c) (take (k + 1) a) ≡ put ++ (state_of c (get_or a k (Code 0)) ∷ []) = rw (add-one, take-suc a k (Code 0) in-a, map-append, append_assoc) in
     rw more (held_more 64 no_state put (state_of c (get_or a k (Code 0))) arr (h + k) lt count ea).1
 
-pub grown : (active : Active) (effect : Effect) (c : Coord) (arr : List State) → Tidy active → effect.held ≡ active.len
+-- the states after the loop
+abbrev pub grown_active : Effect → List State → Active
+grown_active effect arr = record { default_layer = effect.default_layer; states = arr; len = effect.held + effect.added; waiting = effect.waiting }
+
+grown_is : (active : Active) (effect : Effect) (c : Coord) (arr : List State) → Tidy active → effect.held ≡ active.len
     → arr ≡ pad 64 no_state (take effect.held active.states ++ map (state_of c) (take effect.added effect.holds))
-    → Grown active effect c (record { active = record { default_layer = effect.default_layer; states = arr; len = effect.held + effect.added; waiting = effect.waiting }; notes = effect.notes })
-grown active effect c arr t e ea =
+    → take (effect.held + effect.added) arr ≡ take effect.held active.states ++ map (state_of c) (take effect.added effect.holds)
+grown_is active effect c arr t e ea =
     let r = effect.roomy in
     let put = take effect.held active.states ++ map (state_of c) (take effect.added effect.holds) in
     let first : length (take effect.held active.states) ≡ effect.held = rw e (held_length active t) in
     let count : effect.held + effect.added ≡ length put = sym (rw (length-append, length-map, first, length-take-le effect.added effect.holds (omega (arith, r.few, r.long)))) in
-    let is : take (effect.held + effect.added) arr ≡ put = rw (count, ea) (take_pad 64 no_state put) in
-    record {
-      tidy = record { few = r.few; clean = ap (pad 64 no_state) is ∙ sym ea };
-      base = refl;
-      states = rw (is, e);
-      waiting = refl;
-      notes = refl;
-    }
+    rw (count, ea) (take_pad 64 no_state put)
+
+pub grown_tidy : (active : Active) (effect : Effect) (c : Coord) (arr : List State) → Tidy active → effect.held ≡ active.len
+    → arr ≡ pad 64 no_state (take effect.held active.states ++ map (state_of c) (take effect.added effect.holds))
+    → Tidy (grown_active effect arr)
+grown_tidy active effect c arr t e ea = record { few = effect.roomy.few; clean = ap (pad 64 no_state) (grown_is active effect c arr t e ea) ∙ sym ea }
+
+pub grown : (active : Active) (effect : Effect) (c : Coord) (arr : List State) (tidy : Tidy (grown_active effect arr)) → Tidy active → effect.held ≡ active.len
+    → arr ≡ pad 64 no_state (take effect.held active.states ++ map (state_of c) (take effect.added effect.holds))
+    → Grown active effect c (record { active = grown_active effect arr; notes = effect.notes; tidy = tidy })
+grown active effect c arr tidy t e ea = record { base = refl; states = rw (grown_is active effect c arr t e ea, e); waiting = refl; notes = refl }
 
 -- a state more where there is room, and none where there is not
 push_yes : (s : State) (l : Model) → length l.states < 64 → push s l ≡ still (with_states (l.states ++ (s ∷ [])) l)
@@ -191,15 +199,15 @@ module _ (img : List ℕ) (c : Coord) where
       }
 
   -- what a call has come to once an action has run comes by the action's step
-  pub did_effect : (active : Active) (notes : Notes) (end : Progress) (effect last : Effect) {f : Model → Done} → Tidy active → BeginsSo active notes effect → Effected img c effect last f
-      → Grown active last c end → (q : List Queued) → Did img notes end q (f (model_of img active q))
-  did_effect active notes end effect last {f} t b d g q =
+  pub did_effect : (begun : Progress) (notes : Notes) (end : Progress) (effect last : Effect) {f : Model → Done} → BeginsSo begun.active notes effect → Effected img c effect last f
+      → Grown begun.active last c end → (q : List Queued) → Did img notes end q (f (model_of img begun.active q))
+  did_effect begun notes end effect last {f} b d g q =
+      let active = begun.active in
       let s = states_in active in
-      let h : length s ≡ effect.held = held_length active t ∙ sym b.held in
+      let h : length s ≡ effect.held = held_length active begun.tidy ∙ sym b.held in
       let first : effect_in img c effect s q ≡ model_of img active q =
       model_of_lem q b.base (ap (λ (n : ℕ). s ++ map (state_of c) (take n effect.holds)) b.none ∙ append-nil s) (ap (waiting_of img) b.waiting) in
       record {
-        tidy = g.tidy;
         is = model_of_lem q g.base g.states (ap (waiting_of img) g.waiting) ∙ d.is s h q ∙ ap (λ (m : Model). (f m).layout) first;
         notes = g.notes ∙ d.notes s h q ∙ ap (λ (m : Model). noted effect.notes (f m)) first ∙ ap (λ (n : Notes). noted n (f (model_of img active q))) b.noted;
       }

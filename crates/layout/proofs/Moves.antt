@@ -18,7 +18,8 @@ use Rattle.layout.specs.Actions.{find, decided}
 use Rattle.layout.specs.Steps.{act, into, into_hold, into_tap, releases, released, overflow, appended, entered, event, older, tick_wait, ticked, tick}
 use Rattle.layout.specs.Packed.{list_in, waiting_of, waits_at, model_of, unpack}
 use Rattle.layout.specs.Notes.{no_notes, note_acted, noted, noted_marks}
-use Rattle.layout.specs.Inside.{Tidy, Lined, Moves, Did, Steps, becomes, waited_one}
+use Rattle.layout.specs.Order.{Lined}
+use Rattle.layout.specs.Inside.{Moves, Did, Steps, becomes, waited_one}
 use Rattle.layout.specs.Effects.{Begun, Settled, Grown}
 use Rattle.layout.specs.declared.active.Active.{Active}
 use Rattle.layout.specs.declared.active.WaitingState.{WaitingState}
@@ -38,19 +39,19 @@ abbrev pub Finished : List ℕ → Progress → Queue → Done → Type 0
 Finished img end queue done = Lined queue × Did img no_notes end (list_in queue) done
 
 module _ (img : List ℕ) where
-  pub did_nothing : (active : Active) (notes : Notes) (q : List Queued) → Tidy active → Did img notes (record { active = active; notes = notes }) q (still (model_of img active q))
+  pub did_nothing : (end : Progress) (q : List Queued) → Did img end.notes end q (still (model_of img end.active q))
   unfolding noted_marks
-  did_nothing active notes q t = record { tidy = t; is = refl; notes = refl }
+  did_nothing end q = record { is = refl; notes = refl }
 
-  pub did_moves : (active end : Active) (notes : Notes) (q : List Queued) {move : Model → Model} → Moves img active end move
-      → Did img notes (record { active = end; notes = notes }) q (still (move (model_of img active q)))
+  pub did_moves : (active : Active) (end : Progress) (q : List Queued) {move : Model → Model} → Moves img active end.active move
+      → Did img end.notes end q (still (move (model_of img active q)))
   unfolding noted_marks
-  did_moves active end notes q m = record { tidy = m.tidy; is = m.is q; notes = refl }
+  did_moves active end q m = record { is = m.is q; notes = refl }
 
   -- an event is acted on, and that is noted first
   pub did_acted : (notes noting : Notes) (end : Progress) (q : List Queued) (e : Event) (done : Done) → noting ≡ note_acted notes e → Did img noting end q done → Did img notes end q (marked (Acted e) done)
   unfolding noted_marks
-  did_acted notes noting end q e done en d = record { tidy = d.tidy; is = d.is; notes = d.notes ∙ ap (λ (n : Notes). noted n done) en }
+  did_acted notes noting end q e done en d = record { is = d.is; notes = d.notes ∙ ap (λ (n : Notes). noted n done) en }
 
   pub did_as : {notes : Notes} {end : Progress} {q : List Queued} {x y : Done} → Did img notes end q x → x ≡ y → Did img notes end q y
   did_as {notes} {end} {q} d e = subst (Did img notes end q) e d
@@ -59,16 +60,16 @@ module _ (img : List ℕ) where
   did_then {notes} {b} {c} {q} {x} g d e =
       let r : Did img b.notes c q (g x.layout) = subst (λ (m : Model). Did img b.notes c q (g m)) d.is e in
       record {
-        tidy = r.tidy;
         is = r.is;
         notes = r.notes ∙ ap (λ (n : Notes). noted n (g x.layout)) d.notes ∙ sym (noted_after notes x (g x.layout));
       }
 
   -- a call that began with no notes, and a queue that holds the list l
-  pub finished : (lay : Layout) (begun end : Progress) (queue : Queue) (l : List Queued) (f : Model → Done) → begun ≡ record { active = lay.active; notes = no_notes } → Lined queue → list_in queue ≡ l
+  pub finished : (lay : Layout) (begun end : Progress) (queue : Queue) (l : List Queued) (f : Model → Done) → begun.active ≡ lay.active → begun.notes ≡ no_notes → Lined queue → list_in queue ≡ l
       → Steps img begun end queue f → Finished img end queue (f (with_queue l (unpack img lay)))
-  finished lay begun end queue l f en t e d =
-      let first : Did img no_notes end (list_in queue) (f (model_of img lay.active (list_in queue))) = subst (λ (b : Progress). Steps img b end queue f) en d in
+  finished lay begun end queue l f ea en t e d =
+      let first : Did img no_notes end (list_in queue) (f (model_of img lay.active (list_in queue))) = subst (λ (a : Active). Did img no_notes end (list_in queue) (f (model_of img a (list_in queue)))) ea
+      (subst (λ (n : Notes). Did img n end (list_in queue) (f (model_of img begun.active (list_in queue)))) en d) in
       (t, subst (λ (x : List Queued). Did img no_notes end (list_in queue) (f (model_of img lay.active x))) e first)
 
   pub finished_as : {end : Progress} {queue : Queue} {x y : Done} → Finished img end queue x → x ≡ y → Finished img end queue y
@@ -128,51 +129,51 @@ module _ (T : Table) (l : Model) where
   wait_up (suc k) h = absurd (omega arith)
 
 -- nothing waits, so nothing becomes hold or tap; and what waits is decided
-module _ (img : List ℕ) (active : Active) (notes : Notes) (way : Way) where
-  pub into_none : (q : List Queued) → Tidy active → active.waiting ≡ None
-      → Did img notes (record { active = active; notes = notes }) q (into way (table_of img) (waiting_of img active.waiting) (model_of img active q))
+module _ (img : List ℕ) (begun : Progress) (way : Way) where
+  pub into_none : (q : List Queued) → begun.active.waiting ≡ None
+      → Did img begun.notes begun q (into way (table_of img) (waiting_of img begun.active.waiting) (model_of img begun.active q))
   unfolding into
-  into_none q t e = did_as img (did_nothing img active notes q t) (sym (ap (λ (w : Option WaitingState). into way (table_of img) (waiting_of img w) (model_of img active q)) e))
+  into_none q e = did_as img (did_nothing img begun q) (sym (ap (λ (w : Option WaitingState). into way (table_of img) (waiting_of img w) (model_of img begun.active q)) e))
 
-  pub into_on : (q : List Queued) (end : Progress) (w : WaitingState) → active.waiting ≡ Some w → Did img notes end q (becomes img way w (model_of img active q))
-      → Did img notes end q (into way (table_of img) (waiting_of img active.waiting) (model_of img active q))
-  into_on q end w e d = did_as img d (sym (ap (λ (x : Option WaitingState). into way (table_of img) (waiting_of img x) (model_of img active q)) e))
+  pub into_on : (q : List Queued) (end : Progress) (w : WaitingState) → begun.active.waiting ≡ Some w → Did img begun.notes end q (becomes img way w (model_of img begun.active q))
+      → Did img begun.notes end q (into way (table_of img) (waiting_of img begun.active.waiting) (model_of img begun.active q))
+  into_on q end w e d = did_as img d (sym (ap (λ (x : Option WaitingState). into way (table_of img) (waiting_of img x) (model_of img begun.active q)) e))
 
   -- the HoldTap that waits is decided in its setting, and what that left is taken
-  pub becomes_so : (queue : Queue) (w : WaitingState) (found : Option ℕ) (effect last : Effect) (end : Progress) → Tidy active
-      → found ≡ find w.coord (list_in queue) → Begun active notes effect
-      → Settled img w.number (record { coord = w.coord; delay = 0; found = found }) way effect last → Grown active last w.coord end
-      → Steps img (record { active = active; notes = notes }) end queue (becomes img way w)
+  pub becomes_so : (queue : Queue) (w : WaitingState) (found : Option ℕ) (effect last : Effect) (end : Progress)
+      → found ≡ find w.coord (list_in queue) → Begun begun.active begun.notes effect
+      → Settled img w.number (record { coord = w.coord; delay = 0; found = found }) way effect last → Grown begun.active last w.coord end
+      → Steps img begun end queue (becomes img way w)
   unfolding into
-  becomes_so queue w found effect last end t ef b d g =
-      did_as img (did_effect img w.coord active notes end effect last t b d g (list_in queue)) (rw ef)
+  becomes_so queue w found effect last end ef b d g =
+      did_as img (did_effect img w.coord begun begun.notes end effect last b d g (list_in queue)) (rw ef)
 
 -- a tick where something waits: it has a tick less, or becomes hold where none is left
-module _ (img : List ℕ) (active : Active) (notes : Notes) (queue : Queue) (w : WaitingState) (k : ℕ) (ek : k ≡ w.left - 1) where
-  pub did_waiting : (next : Active) → Moves img active next (with_waiting (waiting_of img (waits_at w.coord k w.number))) → 0 < k
-      → Steps img (record { active = active; notes = notes }) (record { active = next; notes = notes }) queue (waited_one img w)
-  did_waiting next m h =
-      let fewer = subst (λ (x : ℕ). Moves img active next (with_waiting (waiting_of img (waits_at w.coord x w.number)))) ek m in
-      did_as img (did_moves img active next notes (list_in queue) fewer) (sym (wait_on (table_of img) _ (w.left - 1) (omega arith)))
+module _ (img : List ℕ) (begun : Progress) (queue : Queue) (w : WaitingState) (k : ℕ) (ek : k ≡ w.left - 1) where
+  pub did_waiting : (next : Progress) → next.notes ≡ begun.notes → Moves img begun.active next.active (with_waiting (waiting_of img (waits_at w.coord k w.number))) → 0 < k
+      → Steps img begun next queue (waited_one img w)
+  did_waiting next en m h =
+      let fewer = subst (λ (x : ℕ). Moves img begun.active next.active (with_waiting (waiting_of img (waits_at w.coord x w.number)))) ek m in
+      did_as img (subst (λ (n : Notes). Did img n next (list_in queue) (still (with_waiting (waiting_of img (waits_at w.coord (w.left - 1) w.number)) (model_of img begun.active (list_in queue))))) en (did_moves img begun.active next (list_in queue) fewer)) (sym (wait_on (table_of img) _ (w.left - 1) (omega arith)))
 
   -- what waits is gone once it is decided, so that how many ticks it had left is all the same
-  pub did_up : (end : Progress) → k ≤ 0 → Steps img (record { active = active; notes = notes }) end queue (becomes img Hold w) → Steps img (record { active = active; notes = notes }) end queue (waited_one img w)
+  pub did_up : (end : Progress) → k ≤ 0 → Steps img begun end queue (becomes img Hold w) → Steps img begun end queue (waited_one img w)
   unfolding into decided
   did_up end h d = did_as img d (sym (wait_up (table_of img) _ (w.left - 1) (omega arith)))
 
 -- a tick of a whole layout, where something waits
-pub tick_goes : (img : List ℕ) (lay : Layout) (begun : Progress) (w : WaitingState) (queue : Queue) (end : Progress) → begun ≡ record { active = lay.active; notes = no_notes } → lay.active.waiting ≡ Some w → Lined queue → list_in queue ≡ older (list_in lay.queue)
+pub tick_goes : (img : List ℕ) (lay : Layout) (begun : Progress) (w : WaitingState) (queue : Queue) (end : Progress) → begun.active ≡ lay.active → begun.notes ≡ no_notes → lay.active.waiting ≡ Some w → Lined queue → list_in queue ≡ older (list_in lay.queue)
     → Steps img begun end queue (waited_one img w) → Finished img end queue (tick (table_of img) (unpack img lay))
-tick_goes img lay begun w queue end en e t eq d =
-    finished_as img (finished img lay begun end queue (older (list_in lay.queue)) (waited_one img w) en t eq d)
+tick_goes img lay begun w queue end ea en e t eq d =
+    finished_as img (finished img lay begun end queue (older (list_in lay.queue)) (waited_one img w) ea en t eq d)
     (sym (tick_on (table_of img) (unpack img lay) w.coord w.left w.number _ _ (ap (waiting_of img) e)))
 
 -- an event of a whole layout: it is entered by a step, and then what waits for its release becomes tap
-pub event_goes : (img : List ℕ) (lay : Layout) (begun : Progress) (e : Event) (queue : Queue) (end : Progress) (l : List Queued) (enter : Model → Done) → begun ≡ record { active = lay.active; notes = no_notes } → Lined queue → list_in queue ≡ l
+pub event_goes : (img : List ℕ) (lay : Layout) (begun : Progress) (e : Event) (queue : Queue) (end : Progress) (l : List Queued) (enter : Model → Done) → begun.active ≡ lay.active → begun.notes ≡ no_notes → Lined queue → list_in queue ≡ l
     → entered (table_of img) e (list_in lay.queue) (unpack img lay) ≡ enter (with_queue l (unpack img lay))
     → Steps img begun end queue (λ (m : Model). after (enter m) (released (table_of img) e (enter m).layout))
     → Finished img end queue (event (table_of img) e (unpack img lay))
 unfolding event
-event_goes img lay begun e queue end l enter en t el eq d =
-    finished_as img (finished img lay begun end queue l (λ (m : Model). after (enter m) (released (table_of img) e (enter m).layout)) en t el d)
+event_goes img lay begun e queue end l enter ea en t el eq d =
+    finished_as img (finished img lay begun end queue l (λ (m : Model). after (enter m) (released (table_of img) e (enter m).layout)) ea en t el d)
     (sym (ap (λ (r : Done). after r (released (table_of img) e r.layout)) eq))

@@ -11,7 +11,8 @@ use Rattle.event.specs.declared.Event.{Event}
 use Rattle.layout.specs.Model.{Queued, Model, with_states}
 use Rattle.layout.specs.Steps.{appended, older_one, older}
 use Rattle.layout.specs.Packed.{pad, no_state, no_stacked, waiting_of, queued_of, stacked_of, list_in, model_of}
-use Rattle.layout.specs.Inside.{Tidy, Lined, Moves}
+use Rattle.layout.specs.Order.{Tidy, Lined}
+use Rattle.layout.specs.Inside.{Moves}
 use Rattle.layout.specs.declared.active.State.{State}
 use Rattle.layout.specs.declared.active.Active.{Active}
 use Rattle.layout.specs.declared.queue.Stacked.{Stacked}

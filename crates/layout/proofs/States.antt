@@ -18,7 +18,7 @@ use Rattle.image.specs.declared.record.Action.TheVariants as code
 use Rattle.layout.specs.Model.{Queued}
 use Rattle.layout.specs.Packed.{no_state, no_stacked, queued_of, list_in}
 use Rattle.layout.specs.State.{legal_state, falling, may_wait, waiting_good, unused_state, unused_event, unused_stacked, state_good}
-use Rattle.layout.specs.Inside.{Tidy, Lined}
+use Rattle.layout.specs.Order.{Tidy, Lined}
 use Rattle.layout.specs.declared.active.State.{State}
 use Rattle.layout.specs.declared.active.State.TheVariants.{NormalKey, LayerModifier}
 use Rattle.layout.specs.declared.queue.Stacked.{Stacked}

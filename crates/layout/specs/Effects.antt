@@ -11,7 +11,6 @@ use Rattle.layout.specs.Model.{Queued, Model, Done}
 use Rattle.layout.specs.Actions.{push, push_codes, do_action, decided}
 use Rattle.layout.specs.Packed.{states_in, waiting_of, hold_of, tap_of}
 use Rattle.layout.specs.Notes.{noted}
-use Rattle.layout.specs.Inside.{Tidy}
 use Rattle.layout.specs.declared.active.State.{State}
 use Rattle.layout.specs.declared.active.State.TheVariants.{NormalKey, LayerModifier}
 use Rattle.layout.specs.declared.active.Active.{Active}
@@ -49,7 +48,6 @@ pub record Effected (img : List ℕ) (c : Coord) (start end : Effect) (step : Mo
 
 -- what a call has come to, with what an effect left
 pub record Grown (active : Active) (effect : Effect) (c : Coord) (end : Progress) : Type 0 where
-  pub tidy : Tidy end.active
   pub base : end.active.default_layer ≡ effect.default_layer
   pub states : states_in end.active ≡ states_in active ++ map (state_of c) (take effect.added effect.holds)
   pub waiting : end.active.waiting ≡ effect.waiting

@@ -1,6 +1,6 @@
 -- What the private functions promise: how the parts of a layout and the lists that they stand for go together.
 -- Assumes nothing.
-use Rattle.std.specs.Prelude.{◌≡◌, List, ℕ, ◌-◌, ◌≤◌, length, take, Option, Some, Result, Ok, Err}
+use Rattle.std.specs.Prelude.{◌≡◌, List, ℕ, ◌-◌, length, Option, Some, Result, Ok, Err}
 use Rattle.lists.specs.Lists.{laid}
 use Rattle.refusal.specs.Verdict.{Verdict, fine}
 use Rattle.refusal.specs.declared.Fault.{Fault}
@@ -8,7 +8,8 @@ use Rattle.event.specs.declared.Coord.{Coord}
 use Rattle.image.specs.Table.{table_of, tree_in}
 use Rattle.layout.specs.Model.{Queued, Model, Done, age_of, with_waiting}
 use Rattle.layout.specs.Steps.{codes, pressed, act, into, tick_wait}
-use Rattle.layout.specs.Packed.{pad, no_state, no_stacked, states_in, queued_of, list_in, waiting_of, waits_at, model_of}
+use Rattle.layout.specs.Packed.{states_in, queued_of, list_in, waiting_of, waits_at, model_of}
+use Rattle.layout.specs.Order.{Tidy}
 use Rattle.layout.specs.Notes.{noted}
 use Rattle.layout.specs.declared.active.Active.{Active}
 use Rattle.layout.specs.declared.active.WaitingState.{WaitingState}
@@ -19,20 +20,6 @@ use Rattle.layout.specs.declared.queue.Queue.{Queue}
 use Rattle.layout.specs.declared.progress.Progress.{Progress}
 use Rattle.layout.specs.declared.answer.Answered.{Answered}
 
--- the count is within the array, and the unused places are zero
-pub record Tidy (active : Active) : Type 0 where
-  pub few : active.len ≤ 64
-  pub clean : pad 64 no_state (take active.len active.states) ≡ active.states
-
-pub record Lined (queue : Queue) : Type 0 where
-  pub few : queue.queued ≤ 16
-  pub clean : pad 16 no_stacked (take queue.queued queue.stacked) ≡ queue.stacked
-
--- what a step may rely on: both parts in order
-pub record Ready (active : Active) (queue : Queue) : Type 0 where
-  pub tidy : Tidy active
-  pub lined : Lined queue
-
 -- the active part comes from another, whatever is queued
 pub record Moves (img : List ℕ) (start end : Active) (move : Model → Model) : Type 0 where
   pub tidy : Tidy end
@@ -40,7 +27,6 @@ pub record Moves (img : List ℕ) (start end : Active) (move : Model → Model) 
 
 -- a call with these notes has come by a step to an end, where the queue is q
 pub record Did (img : List ℕ) (before : Notes) (end : Progress) (q : List Queued) (done : Done) : Type 0 where
-  pub tidy : Tidy end.active
   pub is : model_of img end.active q ≡ done.layout
   pub notes : end.notes ≡ noted before done
 

@@ -10,4 +10,5 @@ pub mod Limits
 pub mod Asserted
 pub mod Inside
 pub mod Room
+pub mod Order
 pub mod Effects

@@ -5,9 +5,10 @@ ghost use Rattle.std.specs.Prelude.{◌≡◌, ℕ, List};
 ghost use Rattle.layout.specs.Model.{with_states, with_waiting};
 ghost use Rattle.layout.specs.Steps.{coord_in, release as release_of, current, held};
 ghost use Rattle.layout.specs.Packed.{states_in, waiting_of};
-ghost use Rattle.layout.specs.Inside.{Tidy, Moves};
+ghost use Rattle.layout.specs.Inside.{Moves};
 
 use super::layout::Layout;
+use super::progress::Progress;
 use event::Coord;
 
 // What a key that is down does: it holds a code, or a layer.
@@ -52,21 +53,22 @@ impl State {
 }
 
 // Something else waits.
-pub(crate) fn with_waiting(active: &Active, waiting: Option<WaitingState>) -> Active
-    requires { Tidy active.now }
-    ensures { (img : List ℕ) → Moves img active.now result (with_waiting (waiting_of img waiting)) }
+pub(crate) fn with_waiting(begun: &Progress, waiting: Option<WaitingState>) -> Active
+    ensures { (img : List ℕ) → Moves img begun.now.active result (with_waiting (waiting_of img waiting)) }
 {
-    Active { waiting, ..*active }
+    Active {
+        waiting,
+        ..begun.active
+    }
 }
 
 // A release drops all states of its coordinates and keeps the others' order.
-pub(crate) fn release(active: &Active, coord: Coord) -> Active
-    requires { Tidy active.now }
-    ensures { (img : List ℕ) → Moves img active.now result (λ l. with_states (release_of coord l.states) l) }
+pub(crate) fn release(begun: &Progress, coord: Coord) -> Active
+    ensures { (img : List ℕ) → Moves img begun.now.active result (λ l. with_states (release_of coord l.states) l) }
 {
     let mut states = [State::UNUSED; Layout::STATES];
     let mut len = 0;
-    for state in &active.states[..active.len] {
+    for state in &begun.active.states[..begun.active.len] {
         if coord != state.coord() {
             states[len] = *state;
             len += 1;
@@ -75,20 +77,19 @@ pub(crate) fn release(active: &Active, coord: Coord) -> Active
     Active {
         states,
         len,
-        ..*active
+        ..begun.active
     }
 }
 
 // The sum of the held Layer numbers, or the default layer if none is held.
-pub(crate) fn current_layer(active: &Active) -> usize
-    requires { Tidy active.now }
-    ensures { result ≡ current active.now.default_layer (held (states_in active.now)) }
+pub(crate) fn current_layer(begun: &Progress) -> usize
+    ensures { result ≡ current begun.now.active.default_layer (held (states_in begun.now.active)) }
 {
     let mut sum = None;
-    for state in &active.states[..active.len] {
+    for state in &begun.active.states[..begun.active.len] {
         if let State::LayerModifier { value, .. } = *state {
             sum = Some(sum.unwrap_or(0) + value as usize);
         }
     }
-    sum.unwrap_or(active.default_layer)
+    sum.unwrap_or(begun.active.default_layer)
 }

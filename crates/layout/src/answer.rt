@@ -1,7 +1,7 @@
 // What a call hands back: document 01, Layout, the last paragraph, and "Refusal numbers".
 // Assumes nothing.
 ghost use Rattle.std.specs.Prelude.{◌≡◌, ◌≤◌, length};
-ghost use Rattle.layout.specs.Inside.{Tidy, Handed};
+ghost use Rattle.layout.specs.Inside.{Handed};
 
 use super::active::State;
 use super::layout::Layout;
@@ -25,7 +25,7 @@ pub struct Answered {
 
 // The answer of a call that was not refused: the key codes in state order go to the start of the buffer.
 pub(crate) fn answer_of(end: Progress, queue: Queue, out: &mut [u8]) -> Answered
-    requires { Tidy end.active × (64 ≤ length out.old) }
+    requires { 64 ≤ length out.old }
     ensures { Handed end queue result out.old out.new }
 {
     let mut codes = 0;

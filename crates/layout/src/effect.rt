@@ -4,9 +4,10 @@
 // Assumes nothing.
 ghost use Rattle.layout.specs.Room.{HasRoom};
 
-use super::active::{Active, WaitingState};
+use super::active::{State, WaitingState};
 use super::layout::Layout;
 use super::notes::{Decision, Notes, Way, note_decision, note_dropped};
+use super::progress::Progress;
 use event::Coord;
 
 // What a state holds, without the coordinates of its key.
@@ -29,6 +30,22 @@ pub(crate) struct Effect {
     ghost roomy: { HasRoom held added holds },
 }
 
+impl Holds {
+    ghost use Rattle.std.specs.Prelude.{◌≡◌};
+    ghost use Rattle.layout.specs.Effects.{state_of};
+
+    // The state that holds this, at its coordinates.
+    #[tactic(auto, unfolding(crate::specs::Effects::state_of))]
+    pub(crate) fn at(self, coord: Coord) -> State
+        ensures { result ≡ state_of coord self }
+    {
+        match self {
+            Holds::Code(keycode) => State::NormalKey { keycode, coord },
+            Holds::Layer(value) => State::LayerModifier { value, coord },
+        }
+    }
+}
+
 impl Effect {
     ghost use Rattle.std.specs.Prelude.{◌≡◌, true, cond, ltb};
     ghost use Rattle.codes.specs.Codes.{legal};
@@ -36,20 +53,18 @@ impl Effect {
     ghost use Rattle.layout.specs.Model as Model;
     ghost use Rattle.layout.specs.Model.{still, marked, with_base, with_waiting};
     ghost use Rattle.layout.specs.Packed.{waiting_of, waits_at};
-    ghost use Rattle.layout.specs.Inside.{Tidy};
     ghost use Rattle.layout.specs.Effects.{state_of, Begun, Added, Pushes, Leaves};
 
     // Before an action runs.
-    pub(crate) fn new(active: &Active, notes: Notes) -> Effect
-        requires { Tidy active.now }
-        ensures { Begun active.now notes result }
+    pub(crate) fn new(begun: &Progress, notes: Notes) -> Effect
+        ensures { Begun begun.now.active notes result }
     {
         Effect {
-            default_layer: active.default_layer,
-            held: active.len,
+            default_layer: begun.active.default_layer,
+            held: begun.active.len,
             holds: [Holds::Code(0); Layout::STATES],
             added: 0,
-            waiting: active.waiting,
+            waiting: begun.active.waiting,
             notes,
         }
     }

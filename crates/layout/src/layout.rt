@@ -4,7 +4,8 @@ ghost use Rattle.std.specs.Prelude.{◌≡◌, ◌≤◌, IfOk};
 ghost use Rattle.layout.specs.Model.{fresh};
 ghost use Rattle.layout.specs.Packed.{pack};
 ghost use Rattle.layout.specs.Calls.{judged_of, handed, shown, event_reply, tick_reply, keycodes_reply};
-ghost use Rattle.layout.specs.Inside.{Ready, verdict_of};
+ghost use Rattle.layout.specs.Order.{Ready};
+ghost use Rattle.layout.specs.Inside.{verdict_of};
 
 use super::accepted::Accepted;
 use super::active::{Active, State};

@@ -1,11 +1,9 @@
 // How far a call has come, and what an action's effect adds to it. Document 01, Layout.
 // Assumes nothing.
-ghost use Rattle.std.specs.Prelude.{◌≡◌};
-ghost use Rattle.layout.specs.Inside.{Tidy};
-ghost use Rattle.layout.specs.Effects.{state_of, Grown};
+ghost use Rattle.layout.specs.Order.{Tidy};
 
-use super::active::{Active, State};
-use super::effect::{Effect, Holds};
+use super::active::Active;
+use super::effect::Effect;
 use super::notes::{Notes, no_notes};
 use event::Coord;
 
@@ -14,49 +12,42 @@ use event::Coord;
 pub(crate) struct Progress {
     pub active: Active,
     pub notes: Notes,
+    ghost tidy: { Tidy active },
 }
 
 impl Progress {
+    ghost use Rattle.std.specs.Prelude.{◌≡◌};
+    ghost use Rattle.layout.specs.Effects.{Grown};
     ghost use Rattle.layout.specs.Notes.{no_notes as none};
 
     // A call begins with nothing done.
     pub(crate) fn new(active: Active) -> Progress
-        ensures { result ≡ record { active = active; notes = none } }
+        requires { Tidy active }
+        ensures { (result.active ≡ active) × (result.notes ≡ none) }
     {
         Progress {
             active,
             notes: no_notes(),
         }
     }
-}
 
-// The state that holds this, at its coordinates.
-#[tactic(auto, unfolding(crate::specs::Effects::state_of))]
-fn state_of(holds: Holds, coord: Coord) -> State
-    ensures { result ≡ state_of coord holds }
-{
-    match holds {
-        Holds::Code(keycode) => State::NormalKey { keycode, coord },
-        Holds::Layer(value) => State::LayerModifier { value, coord },
-    }
-}
-
-// What a call has come to once an action has run: what was added stands behind the states.
-pub(crate) fn after_effect(active: &Active, effect: &Effect, coord: Coord) -> Progress
-    requires { Tidy active.now × (effect.now.held ≡ active.now.len) }
-    ensures { Grown active.now effect.now coord result }
-{
-    let mut states = active.states;
-    for k in 0..effect.added {
-        states[effect.held + k] = state_of(effect.holds[k], coord);
-    }
-    Progress {
-        active: Active {
-            default_layer: effect.default_layer,
-            states,
-            len: effect.held + effect.added,
-            waiting: effect.waiting,
-        },
-        notes: effect.notes,
+    // What a call has come to once an action has run: what was added stands behind the states.
+    pub(crate) fn after_effect(&self, effect: &Effect, coord: Coord) -> Progress
+        requires { effect.now.held ≡ self.now.active.len }
+        ensures { Grown self.now.active effect.now coord result }
+    {
+        let mut states = self.active.states;
+        for k in 0..effect.added {
+            states[effect.held + k] = effect.holds[k].at(coord);
+        }
+        Progress {
+            active: Active {
+                default_layer: effect.default_layer,
+                states,
+                len: effect.held + effect.added,
+                waiting: effect.waiting,
+            },
+            notes: effect.notes,
+        }
     }
 }

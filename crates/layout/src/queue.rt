@@ -4,7 +4,7 @@ ghost use Rattle.std.specs.Prelude.{◌≡◌, ◌<◌, drop};
 ghost use Rattle.layout.specs.Actions.{is_release, find};
 ghost use Rattle.layout.specs.Steps.{older, appended};
 ghost use Rattle.layout.specs.Packed.{list_in};
-ghost use Rattle.layout.specs.Inside.{Lined};
+ghost use Rattle.layout.specs.Order.{Lined};
 
 use super::layout::Layout;
 use event::{Coord, Event};

@@ -4,57 +4,62 @@ ghost use Rattle.std.specs.Prelude.{◌≡◌};
 ghost use Rattle.image.specs.Table.{table_of};
 ghost use Rattle.layout.specs.Steps.{released as released_of, overflow as overflow_of};
 ghost use Rattle.layout.specs.Packed.{queued_of};
-ghost use Rattle.layout.specs.Inside.{Tidy, Ready, PressedTo, Steps, unstacked, becomes as becomes_of, waited_one};
+ghost use Rattle.layout.specs.Order.{Lined};
+ghost use Rattle.layout.specs.Inside.{PressedTo, Steps, unstacked, becomes as becomes_of, waited_one};
 
 use super::accepted::Accepted;
 use super::action::Setting;
-use super::active::{Active, WaitingState, current_layer, release, with_waiting};
+use super::active::{WaitingState, current_layer, release, with_waiting};
 use super::effect::Effect;
 use super::notes::{Way, note_acted};
-use super::progress::{Progress, after_effect};
+use super::progress::Progress;
 use super::queue::{Queue, Stacked, find_release, is_release};
 use event::{Coord, Event};
 use image::{Action, action_at, cell_at};
 
 impl Accepted<'_> {
     // The record that a press runs: Trans takes the default layer's cell. Outside the table there is none.
-    fn press_as_action(&self, active: &Active, coord: Coord) -> Option<u16>
-        requires { Tidy active.now }
-        ensures { PressedTo self.now.image.now active.now coord result }
+    fn press_as_action(&self, begun: &Progress, coord: Coord) -> Option<u16>
+        ensures { PressedTo self.now.image.now begun.now.active coord result }
     {
         let i = coord.i as usize;
         let j = coord.j as usize;
-        let n = cell_at(self.image, current_layer(active), i, j)?;
+        let n = cell_at(self.image, current_layer(begun), i, j)?;
         match action_at(self.image, n as usize) {
-            Action::Trans => cell_at(self.image, active.default_layer, i, j),
+            Action::Trans => cell_at(self.image, begun.active.default_layer, i, j),
             _ => Some(n),
         }
     }
 
     // An event that left the queue is acted on, with its age.
     pub(crate) fn unstack(&self, begun: &Progress, queue: &Queue, stacked: Stacked) -> Progress
-        requires { Ready begun.now.active queue.now }
+        requires { Lined queue.now }
         ensures { Steps self.now.image.now begun.now result queue.now (unstacked self.now.image.now stacked) }
     {
         let notes = note_acted(begun.notes, stacked.event);
         match stacked.event {
-            Event::Release(i, j) => Progress {
-                active: release(&begun.active, Coord { i, j }),
-                notes,
-            },
+            Event::Release(i, j) => {
+                return Progress {
+                    active: release(begun, Coord { i, j }),
+                    notes,
+                };
+            }
             Event::Press(i, j) => {
                 let coord = Coord { i, j };
-                let Some(n) = self.press_as_action(&begun.active, coord) else {
-                    return Progress { notes, ..*begun };
+                let Some(n) = self.press_as_action(begun, coord) else {
+                    return Progress {
+                        active: begun.active,
+                        notes,
+                    };
                 };
                 let setting = Setting {
                     coord,
                     delay: stacked.since,
                     found: find_release(queue, coord),
                 };
-                let mut effect = Effect::new(&begun.active, notes);
+                let mut effect = Effect::new(begun, notes);
                 self.do_action(&mut effect, n, setting);
-                after_effect(&begun.active, &effect, coord)
+                begun.after_effect(&effect, coord)
             }
         }
     }
@@ -62,7 +67,7 @@ impl Accepted<'_> {
     // What waits becomes hold or tap, which is keyberon's waiting_into_hold and waiting_into_tap: with no delay, and with the
     // first queued release of its key.
     fn becomes(&self, begun: &Progress, queue: &Queue, w: WaitingState, way: Way) -> Progress
-        requires { Ready begun.now.active queue.now }
+        requires { Lined queue.now }
         ensures { Steps self.now.image.now begun.now result queue.now (becomes_of self.now.image.now way w) }
     {
         let setting = Setting {
@@ -70,14 +75,14 @@ impl Accepted<'_> {
             delay: 0,
             found: find_release(queue, w.coord),
         };
-        let mut effect = Effect::new(&begun.active, begun.notes);
+        let mut effect = Effect::new(begun, begun.notes);
         self.decide(&mut effect, w.number, setting, way);
-        after_effect(&begun.active, &effect, w.coord)
+        begun.after_effect(&effect, w.coord)
     }
 
     // The oldest event left a full queue: what waits becomes hold, then that event is acted on.
     pub(crate) fn overflow(&self, begun: &Progress, queue: &Queue, oldest: Stacked) -> Progress
-        requires { Ready begun.now.active queue.now }
+        requires { Lined queue.now }
         ensures { Steps self.now.image.now begun.now result queue.now (overflow_of (table_of self.now.image.now) (queued_of oldest)) }
     {
         let Some(w) = begun.active.waiting else {
@@ -89,7 +94,7 @@ impl Accepted<'_> {
 
     // If the new event releases a waiting key, it becomes tap. The release stays queued.
     pub(crate) fn tap_released(&self, begun: &Progress, queue: &Queue, event: Event) -> Progress
-        requires { Ready begun.now.active queue.now }
+        requires { Lined queue.now }
         ensures { Steps self.now.image.now begun.now result queue.now (released_of (table_of self.now.image.now) event) }
     {
         match begun.active.waiting {
@@ -100,15 +105,15 @@ impl Accepted<'_> {
 
     // A tick while a hold-tap waits: it has a tick less, and becomes hold where none is left.
     pub(crate) fn tick_waiting(&self, begun: &Progress, queue: &Queue, w: WaitingState) -> Progress
-        requires { Ready begun.now.active queue.now }
+        requires { Lined queue.now }
         ensures { Steps self.now.image.now begun.now result queue.now (waited_one self.now.image.now w) }
     {
         let left = w.left.saturating_sub(1);
         if 0 < left {
             let waits = WaitingState { left, ..w };
             return Progress {
-                active: with_waiting(&begun.active, Some(waits)),
-                ..*begun
+                active: with_waiting(begun, Some(waits)),
+                notes: begun.notes,
             };
         }
         self.becomes(begun, queue, w, Way::Hold)

@@ -14,12 +14,12 @@ unfolding held
 loop-state-init c = (refl, omega arith)
 
 pub overflow_add-sum : goal.overflow_add-sum
-overflow_add-sum c = let few = length-take c.args.active.now.len c.args.active.now.states in omega (arith, c.requires.few)
+overflow_add-sum c = let few = length-take c.args.begun.now.active.len c.args.begun.now.active.states in omega (arith, c.args.begun.now.tidy.few)
 
 pub loop-state-preserved : goal.loop-state-preserved
 loop-state-preserved c =
     let inv = c.loop-state.invariant in
-    let l = take c.args.active.now.len c.args.active.now.states in
+    let l = take c.args.begun.now.active.len c.args.begun.now.active.states in
     elim c.match-state.branch [
       | in-LayerModifier w ↦ (
         rw (w.sum-is, w.unwrap_or.ensures, inv.0) (sym (layer_more l c.loop-state.state-index no_state c.loop-state-test.true _ _ w.in-LayerModifier.is)),
@@ -33,6 +33,6 @@ loop-state-preserved c =
 
 pub returns : goal.returns
 returns c =
-    let l = take c.args.active.now.len c.args.active.now.states in
+    let l = take c.args.begun.now.active.len c.args.begun.now.active.states in
     let all : take c.loop-state.state-index l ≡ l = take_all l c.loop-state.state-index c.loop-state-test.false in
-    rw (c.unwrap_or-2.ensures, c.loop-state.invariant.0, all) (current_is c.args.active.now.default_layer (held l))
+    rw (c.unwrap_or-2.ensures, c.loop-state.invariant.0, all) (current_is c.args.begun.now.active.default_layer (held l))

@@ -25,7 +25,7 @@ loop-state-init c = (omega arith, refl, refl)
 pub bounds-out-codes : goal.bounds-out-codes
 bounds-out-codes c =
     let few = length-take c.args.end.active.len c.args.end.active.states in
-    omega (arith, c.loop-state.invariant.0, c.loop-state.auto.out, c.requires.0.few, c.requires.1)
+    omega (arith, c.loop-state.invariant.0, c.loop-state.auto.out, c.args.end.tidy.few, c.requires)
 
 pub loop-state-preserved : goal.loop-state-preserved
 loop-state-preserved c =
@@ -36,7 +36,7 @@ loop-state-preserved c =
     elim c.match-state.branch [
       | in-NormalKey w ↦
           let more = key_more l c.loop-state.state-index no_state c.loop-state-test.true _ _ w.in-NormalKey.is in
-          let k : c.loop-state.codes < length c.args.out.now = omega (arith, inv.0, c.requires.0.few, c.requires.1) in (
+          let k : c.loop-state.codes < length c.args.out.now = omega (arith, inv.0, c.args.end.tidy.few, c.requires) in (
             omega (arith, inv.0, w.codes-is),
             rw (w.codes-is, more, length-append) (omega (arith, inv.1)),
             rw (w.out-is, more, inv.2) (put before c.args.out.now _ c.loop-state.codes inv.1 k),

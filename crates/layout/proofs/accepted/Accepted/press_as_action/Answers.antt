@@ -31,7 +31,7 @@ pub returns-in_err-n : goal.returns-in_err-n
 unfolding tree_in
 returns-in_err-n c =
     let none : c.from_residual.result ≡ None = search rules in
-    λ q. ap (tree_in c.args.self.now.image.now) none ∙ press_outside c.args.self.now.image.now c.args.coord (model_of c.args.self.now.image.now c.args.active.now q) _ _ c.current_layer.ensures
+    λ q. ap (tree_in c.args.self.now.image.now) none ∙ press_outside c.args.self.now.image.now c.args.coord (model_of c.args.self.now.image.now c.args.begun.now.active q) _ _ c.current_layer.ensures
     c.cell_at.ensures c.in_err-n.was
 
 pub returns-in-Trans : goal.returns-in-Trans
@@ -39,7 +39,7 @@ unfolding tree_in meaning
 returns-in-Trans c =
     let img = c.args.self.now.image.now in
     let m = tells img _ c.args.self.now.sound c.action_at.ensures c.in-Trans.is in
-    λ q. ap (tree_in img) c.cell_at-in-Trans.ensures ∙ press_trans img c.args.coord (model_of img c.args.active.now q) _ _
+    λ q. ap (tree_in img) c.cell_at-in-Trans.ensures ∙ press_trans img c.args.coord (model_of img c.args.begun.now.active q) _ _
     c.current_layer.ensures c.cell_at.ensures _ c.in_ok-n.was m.is
 
 pub returns-in_default : goal.returns-in_default
@@ -47,6 +47,6 @@ unfolding tree_in
 returns-in_default c =
     let img = c.args.self.now.image.now in
     let m = tells img _ {r = c.action_at.result} c.args.self.now.sound c.action_at.ensures refl in
-    λ q. press_own img c.args.coord (model_of img c.args.active.now q) _ _ c.current_layer.ensures
+    λ q. press_own img c.args.coord (model_of img c.args.begun.now.active q) _ _ c.current_layer.ensures
     c.cell_at.ensures _ c.in_ok-n.was
     (rw m.is (not_trans img _ (tree img) _ _ c.in_default.not-Trans))

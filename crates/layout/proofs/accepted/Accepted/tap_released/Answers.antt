@@ -16,7 +16,7 @@ returns-in-Some c =
     let img = c.args.self.now.image.now in
     let q = list_in c.args.queue.now in
     did_as img
-    (into_on img c.args.begun.now.active c.args.begun.now.notes Tap q c.becomes.result _ c.in-Some.is c.becomes.ensures)
+    (into_on img c.args.begun.now Tap q c.becomes.result _ c.in-Some.is c.becomes.ensures)
     (sym (released_yes (table_of img) c.args.event (model_of img c.args.begun.now.active q)
     (ap (λ (x : Option WaitingState). releases c.args.event (waiting_of img x)) c.in-Some.is ∙ sym c.is_release.ensures ∙ c.if-is_release.true)))
 
@@ -30,5 +30,5 @@ returns-in_default c =
           ap (λ (x : Option WaitingState). releases c.args.event (waiting_of img x)) w.in-Some.is ∙ sym w.is_release.ensures ∙ w.if-is_release.false
       | in_default-via-in_default w ↦ ap (λ (x : Option WaitingState). releases c.args.event (waiting_of img x)) w.in_default.is
     ] in
-    did_as img (did_nothing img c.args.begun.now.active c.args.begun.now.notes q c.requires.tidy)
+    did_as img (did_nothing img c.args.begun.now q)
     (sym (released_no (table_of img) c.args.event (model_of img c.args.begun.now.active q) stays))

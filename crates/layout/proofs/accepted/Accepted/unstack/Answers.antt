@@ -15,7 +15,7 @@ returns-in-Release c =
     let q = list_in c.args.queue.now in
     release_acts img c.args.begun.now.active c.args.begun.now.notes c.note_acted-notes.result _ q c.args.stacked.event _ _ c.args.stacked.since
     c.note_acted-notes.ensures c.in-Release.is
-    (did_moves img c.args.begun.now.active c.release.result c.note_acted-notes.result q (c.release.ensures img))
+    (did_moves img c.args.begun.now.active _ q (c.release.ensures img))
 
 pub returns-in_default : goal.returns-in_default
 unfolding do_action tree_in
@@ -23,19 +23,22 @@ returns-in_default c =
     let img = c.args.self.now.image.now in
     let q = list_in c.args.queue.now in
     let notes = c.note_acted-notes.result in
-    press_acts img c.args.begun.now.active c.args.begun.now.notes notes (record { active = c.args.begun.now.active; notes = notes }) q c.args.stacked.event _ _
+    press_acts img c.args.begun.now.active c.args.begun.now.notes notes _ q c.args.stacked.event _ _
     c.args.stacked.since c.note_acted-notes.ensures None c.in-Press.is
     (ap (tree_in img) (sym c.in_default.is) ∙ c.press_as_action.ensures q)
-    (did_nothing img c.args.begun.now.active notes q c.requires.tidy)
+    (did_nothing img _ q)
 
-pub returns-in-Some : goal.returns-in-Some
+pub returns : goal.returns
 unfolding tree_in
-returns-in-Some c =
+returns c =
     let img = c.args.self.now.image.now in
     let q = list_in c.args.queue.now in
     press_acts img c.args.begun.now.active c.args.begun.now.notes c.note_acted-notes.result c.after_effect.result q c.args.stacked.event _ _
     c.args.stacked.since c.note_acted-notes.ensures (Some _) c.in-Press.is
     (ap (tree_in img) (sym c.in-Some.is) ∙ c.press_as_action.ensures q)
     (rw (← c.find_release.ensures)
-    (did_effect img _ c.args.begun.now.active c.note_acted-notes.result c.after_effect.result _ _ c.requires.tidy
+    (did_effect img _ c.args.begun.now c.note_acted-notes.result c.after_effect.result _ _
     c.new-effect.ensures c.do_action.ensures c.after_effect.ensures q))
+
+pub invariant_of-result : goal.invariant_of-result
+invariant_of-result c = record { tidy = (c.release.ensures c.args.self.now.image.now).tidy }

@@ -27,9 +27,9 @@ returns-then-self-lt-QUEUE c =
     let queue = c.append-queue.result in
     call_finished img lay c.tap_released.result queue (event T e) c.args.out.now _ c.answer_of.result c.judge.ensures.is c.in-Ok.is
     (event_goes img lay c.new-begun.result e queue c.tap_released.result
-    (appended e (list_in lay.queue)) still c.new-begun.ensures c.append-queue.ensures.0 c.append-queue.ensures.1
+    (appended e (list_in lay.queue)) still c.new-begun.ensures.0 c.new-begun.ensures.1 c.append-queue.ensures.0 c.append-queue.ensures.1
     (entered_room T e (list_in lay.queue) (unpack img lay) (omega (arith, long, c.if-self-lt-QUEUE.true)))
-    (did_then img (released T e) (did_nothing img c.new-begun.result.active c.new-begun.result.notes (list_in queue) (rw c.new-begun.ensures r.tidy)) (rw c.in-Ok.ensures.of at c.tap_released.ensures)))
+    (did_then img (released T e) (did_nothing img c.new-begun.result (list_in queue)) (rw c.in-Ok.ensures.of at c.tap_released.ensures)))
     c.answer_of.ensures
 
 -- there is none: the oldest leaves
@@ -58,7 +58,7 @@ returns-else-self-lt-QUEUE c =
     (get_or-map queued_of (take lay.queue.queued lay.queue.stacked) 0 no_stacked) in
     call_finished img lay c.tap_released-in-Ok.result queue (event T e) c.args.out.now _ c.answer_of-in-Ok.result c.judge.ensures.is c.in-Ok.is
     (event_goes img lay c.new-begun.result e queue c.tap_released-in-Ok.result (appended e (drop 1 q))
-    (overflow T (queued_of old)) c.new-begun.ensures c.append-queue-in-Ok.ensures.0
+    (overflow T (queued_of old)) c.new-begun.ensures.0 c.new-begun.ensures.1 c.append-queue-in-Ok.ensures.0
     (c.append-queue-in-Ok.ensures.1 ∙ ap (appended e) c.shift.ensures.1)
     (entered_full T e q (unpack img lay) (queued_of no_stacked) (omega (arith, long, c.if-self-lt-QUEUE.false)) ∙ sym
     (ap (λ (x : Queued). overflow T x (model_of img lay.active (appended e (drop 1 q)))) first))

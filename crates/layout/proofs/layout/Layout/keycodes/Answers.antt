@@ -24,5 +24,5 @@ returns c =
     let q = list_in lay.queue in
     let r = c.in_ok-judge.ensures.ready.0 in
     let whole = call_finished img lay begun lay.queue still c.args.out.now _ c.answer_of.result c.judge.ensures.is c.in_ok-judge.was
-    (finished img lay begun begun lay.queue q still c.new.ensures r.lined refl (did_nothing img begun.active begun.notes q (rw c.new.ensures r.tidy))) c.answer_of.ensures in
+    (finished img lay begun begun lay.queue q still c.new.ensures.0 c.new.ensures.1 r.lined refl (did_nothing img begun q)) c.answer_of.ensures in
     ap (λ (x : Reply). record { told = x.told; layout = lay; buffer = x.buffer }) whole

@@ -23,7 +23,7 @@ returns-in-Some c =
     let img = c.args.image.now in
     call_finished img c.args.self c.tick_waiting.result c.age-queue.result (tick (table_of img)) c.args.out.now _ c.answer_of.result
     c.judge.ensures.is c.in-Ok.is
-    (tick_goes img c.args.self c.new-begun.result _ c.age-queue.result c.tick_waiting.result c.new-begun.ensures
+    (tick_goes img c.args.self c.new-begun.result _ c.age-queue.result c.tick_waiting.result c.new-begun.ensures.0 c.new-begun.ensures.1
     c.in-Some.is c.age-queue.ensures.0 c.age-queue.ensures.1 (rw c.in-Ok.ensures.of at c.tick_waiting.ensures))
     c.answer_of.ensures
 
@@ -36,8 +36,8 @@ returns-then-queue-eq0 c =
     let q = c.age-queue.result in
     let begun = c.new-begun.result in
     call_finished img lay begun q (tick (table_of img)) c.args.out.now _ c.answer_of-then-queue-eq0.result c.judge.ensures.is c.in-Ok.is
-    (finished_as img (finished img lay begun begun q (older (list_in lay.queue)) still c.new-begun.ensures c.age-queue.ensures.0 c.age-queue.ensures.1
-    (did_nothing img begun.active begun.notes (list_in q) (rw c.new-begun.ensures c.in-Ok.ensures.ready.0.tidy)))
+    (finished_as img (finished img lay begun begun q (older (list_in lay.queue)) still c.new-begun.ensures.0 c.new-begun.ensures.1 c.age-queue.ensures.0 c.age-queue.ensures.1
+    (did_nothing img begun (list_in q)))
     (sym (tick_none (table_of img) (unpack img lay) (ap (waiting_of img) c.in_default.is)
     (sym (ap length c.age-queue.ensures.1) ∙ long ∙ c.if-queue-eq0.true))))
     c.answer_of-then-queue-eq0.ensures
@@ -59,7 +59,7 @@ returns-else-queue-eq0 c =
     (λ (x : List Queued). get_or x 0 (queued_of no_stacked)) c.age-queue.ensures.1 in
     call_finished img lay c.unstack.result c.shift-rest.result (tick T) c.args.out.now _ c.answer_of-in-Ok.result c.judge.ensures.is c.in-Ok.is
     (finished_as img (finished img lay c.new-begun.result c.unstack.result c.shift-rest.result (drop 1 q)
-    (act T old.event old.since) c.new-begun.ensures c.shift-rest.ensures.0
+    (act T old.event old.since) c.new-begun.ensures.0 c.new-begun.ensures.1 c.shift-rest.ensures.0
     (c.shift-rest.ensures.1 ∙ ap (drop 1) c.age-queue.ensures.1) (rw c.in-Ok.ensures.of at c.unstack.ensures))
     (ap (λ (x : Queued). act T x.event (age_of x) (model_of img lay.active (drop 1 q))) first
     ∙ sym (tick_some T (unpack img lay) (ap (waiting_of img) c.in_default.is)
