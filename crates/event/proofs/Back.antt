@@ -2,13 +2,13 @@
 -- Assumes nothing.
 use Prim.Native.Nat.{ℕ}
 use mathlib.Core.Bool.{Bool, true, false, cond}
-use mathlib.Core.List.{[], ◌∷◌}
+use mathlib.Core.List.{List, [], ◌∷◌}
 use mathlib.Core.Path.{◌≡◌, refl, sym, ap, ◌∙◌}
 use borrow.Author.Tests.{eqb-true}
 use lib.Dec.{eqb}
 use Rattle.std.specs.Prelude.{Result, Ok, Err}
 use Rattle.event.specs.declared.UnknownKind.{UnknownKind}
-use Rattle.event.specs.Bytes.{bytes_of, read_of}
+use Rattle.event.specs.Bytes.{bytes_of, read_of, read_values}
 use Rattle.event.specs.declared.Event.{Event}
 use Rattle.event.specs.declared.Event.TheVariants.{Release, Press}
 
@@ -25,3 +25,17 @@ bytes_read kind i j e h = go (eqb kind 0) (eqb kind 1) refl refl h
     go true one? z o h = let same : e ≡ Release i j = cc in ap bytes_of same ∙ ap (λ k. k ∷ i ∷ j ∷ []) (sym (eqb-true kind 0 z))
     go false true z o h = let same : e ≡ Press i j = cc in ap bytes_of same ∙ ap (λ k. k ∷ i ∷ j ∷ []) (sym (eqb-true kind 1 o))
     go false false z o h = cc
+
+-- what was read is known by its values
+abbrev back : List ℕ → Result Event UnknownKind
+back [] = Err (record { kind = 0 })
+back (kind ∷ []) = Err (record { kind = kind })
+back (kind ∷ i ∷ rest) = read_of (kind ∷ i ∷ rest)
+
+values_back : (r : Result Event UnknownKind) → back (read_values r) ≡ r
+values_back (Ok (Release i j)) = refl
+values_back (Ok (Press i j)) = refl
+values_back (Err unknown) = refl
+
+pub read_one : (x y : Result Event UnknownKind) → read_values x ≡ read_values y → x ≡ y
+read_one x y e = sym (values_back x) ∙ ap back e ∙ values_back y

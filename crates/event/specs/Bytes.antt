@@ -21,3 +21,8 @@ read_as kind i j = cond (eqb kind 0) (Ok (Release i j)) (cond (eqb kind 1) (Ok (
 
 abbrev pub read_of : List ℕ → Result Event UnknownKind
 read_of bytes = read_as (get_or bytes 0 0) (get_or bytes 1 0) (get_or bytes 2 0)
+
+-- the values of what was read, case by case: the event's three bytes, or the kind that is none
+abbrev pub read_values : Result Event UnknownKind → List ℕ
+read_values (Ok event) = bytes_of event
+read_values (Err unknown) = unknown.kind ∷ []

@@ -1,11 +1,11 @@
 -- An answer is known by what document 01 says of it: its number, its place and its values. Assumes nothing.
 use mathlib.Core.Path.{◌≡◌, refl, ap, sym, ◌∙◌}
 use mathlib.Core.Bool.{cond}
-use Rattle.std.specs.Prelude.{Result, Ok, Err}
+use Rattle.std.specs.Prelude.{ℕ, Result, Ok, Err, Option, Some, None, List, [], ◌∷◌}
 use Rattle.std.specs.Result.{result_map_both}
 use Rattle.refusal.specs.declared.Fault.{Fault}
 use Rattle.refusal.proofs.Said.{said_one}
-use Rattle.image.specs.Record.{action_of, RecordWords, action_words}
+use Rattle.image.specs.Record.{action_of, RecordWords, action_words, cell_value, entry_value}
 use Rattle.image.specs.Use.{Stretch, stretch_told, source_said}
 use Rattle.image.specs.declared.record.Action.{Action}
 use Rattle.image.specs.declared.record.Action.TheVariants as code
@@ -41,3 +41,17 @@ action_known (code.HoldTap t h p) = refl
 
 pub action_one : (x y : Action) → action_words x ≡ action_words y → x ≡ y
 action_one x y e = sym (action_known x) ∙ ap (λ (w : RecordWords). action_of w.kind w.a w.b w.c) e ∙ action_known y
+
+abbrev cell_back : List ℕ → Option ℕ
+cell_back [] = None
+cell_back (n ∷ ns) = Some n
+
+cell_known : (x : Option ℕ) → cell_back (cell_value x) ≡ x
+cell_known (Some n) = refl
+cell_known None = refl
+
+pub cell_one : (x y : Option ℕ) → cell_value x ≡ cell_value y → x ≡ y
+cell_one x y e = sym (cell_known x) ∙ ap cell_back e ∙ cell_known y
+
+pub entry_one : (x y : Option ℕ) → entry_value x ≡ entry_value y → x ≡ y
+entry_one = cell_one

@@ -88,3 +88,11 @@ action_words (MultipleActions first count) = record { kind = 4; a = first; b = c
 action_words (Layer number) = record { kind = 5; a = number; b = 0; c = 0 }
 action_words (DefaultLayer number) = record { kind = 6; a = number; b = 0; c = 0 }
 action_words (HoldTap timeout hold tap) = record { kind = 7; a = timeout; b = hold; c = tap }
+
+-- the values of a lookup: the number of the record that a cell names, or the word of an entry; or none
+abbrev pub cell_value : Option ℕ → List ℕ
+cell_value (Some n) = n ∷ []
+cell_value None = []
+
+abbrev pub entry_value : Option ℕ → List ℕ
+entry_value = cell_value

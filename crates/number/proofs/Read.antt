@@ -1,5 +1,5 @@
 -- What the proofs of reading decimal share. Assumes nothing.
-use Rattle.std.proofs.Common.{ℕ, ◌+◌, ◌*◌, ◌-◌, ◌<◌, ◌≤◌, ◌≡◌, refl, ◌∙◌, List, [], ◌∷◌, length, get_or, drop, Some, None, true, false, arith}
+use Rattle.std.proofs.Common.{ℕ, ◌+◌, ◌*◌, ◌-◌, ◌<◌, ◌≤◌, ◌≡◌, refl, sym, ap, ◌∙◌, List, [], ◌∷◌, length, get_or, drop, Some, None, true, false, arith}
 use mathlib.Core.Bool.{cond, and-false}
 use borrow.Author.Tests.{le-leb, lt-leb}
 use lib.Dec.{leb}
@@ -8,7 +8,7 @@ use Rattle.std.specs.Prelude.{Option}
 use Rattle.std.specs.Char.{is_ascii_digit}
 use Rattle.std.proofs.lemmas.Grind.{common_steps}
 use Rattle.std.proofs.lemmas.List.{at_drop_more}
-use Rattle.number.specs.Number.{is_digit, comes_to, read_behind, read_decimal, not_above, read_within}
+use Rattle.number.specs.Number.{is_digit, comes_to, read_behind, read_decimal, not_above, read_within, values_of}
 
 -- a digit is what the library says it is
 digit_is : (c : ℕ) → is_digit c ≡ is_ascii_digit c
@@ -69,3 +69,15 @@ most largest None n e = cc
 pub within_fits : (digits largest : ℕ) (word : List ℕ) (n : ℕ) → read_within digits largest word ≡ Some n → n ≤ largest
 unfolding read_within
 within_fits digits largest word n e = grind (arith, common_steps, most)
+
+-- what was read is known by its values
+abbrev back : List ℕ → Option ℕ
+back [] = None
+back (n ∷ ns) = Some n
+
+values_back : (x : Option ℕ) → back (values_of x) ≡ x
+values_back (Some n) = refl
+values_back None = refl
+
+pub number_one : (x y : Option ℕ) → values_of x ≡ values_of y → x ≡ y
+number_one x y e = sym (values_back x) ∙ ap back e ∙ values_back y

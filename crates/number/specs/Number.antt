@@ -27,3 +27,8 @@ not_above largest None = None
 
 unfoldable pub read_within : ℕ → ℕ → List ℕ → Option ℕ
 read_within digits largest word = cond (leb (length word) digits) (not_above largest (read_decimal word)) None
+
+-- the values of what was read: the number, or none
+abbrev pub values_of : Option ℕ → List ℕ
+values_of (Some n) = n ∷ []
+values_of None = []

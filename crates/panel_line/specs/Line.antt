@@ -1,6 +1,7 @@
 -- What a line of `panel` says: document 01, Bench cases. Bytes are ASCII: 32 is the space, 112 is p, 114 is r, 116 is t.
 -- Assumes nothing.
-use Rattle.std.specs.Prelude.{ℕ, ◌+◌, Bool, cond, ◌&&◌, ◌==◌, List, position, Option, Some, None, length, get_or, take, drop}
+use Rattle.std.specs.Prelude.{ℕ, ◌+◌, Bool, cond, ◌&&◌, ◌==◌, List, [], ◌∷◌, position, Option, Some, None, length, get_or, take, drop}
+use Rattle.event.specs.Bytes.{bytes_of}
 use Rattle.event.specs.declared.Coord.{Coord}
 use Rattle.event.specs.declared.Event.TheVariants.{Press, Release}
 use Rattle.number.specs.Number.{read_within}
@@ -41,3 +42,9 @@ line_of cs =
     cond (length cs == 1 && get_or cs 0 0 == 116) (Some Tick)
     (cond (starts_with 112 cs) (press_at (coords_of (drop 2 cs)))
     (cond (starts_with 114 cs) (release_at (coords_of (drop 2 cs))) None))
+
+-- the values of what is said: an event's three bytes, the letter of a tick, or none
+abbrev pub says_of : Option Line → List ℕ
+says_of (Some (Key event)) = bytes_of event
+says_of (Some Tick) = 116 ∷ []
+says_of None = []
