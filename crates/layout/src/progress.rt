@@ -7,7 +7,7 @@ use super::effect::Effect;
 use super::notes::{Notes, no_notes};
 use event::Coord;
 
-// What a call has changed, and what it has done.
+// What a call has changed, and what it has done. Its states are in order, which `judge` has asked of those it begins with.
 #[derive(Clone, Copy)]
 pub(crate) struct Progress {
     pub active: Active,
