@@ -29,6 +29,7 @@ use Rattle.layout.specs.declared.active.WaitingState.{WaitingState}
 use Rattle.layout.specs.declared.queue.Stacked.{Stacked}
 use Rattle.layout.specs.declared.queue.Queue.{Queue}
 use Rattle.layout.specs.declared.progress.Progress.{Progress}
+use Rattle.layout.specs.declared.line.Line.{Line}
 use Rattle.layout.specs.declared.layout.Layout.{Layout}
 use Rattle.layout.specs.declared.answer.Answered.{Answered}
 use Rattle.layout.proofs.Moves.{Finished}
@@ -92,15 +93,15 @@ unfolding replied answer_of layout_after buffered
 call_refused img lay buffer step j e = rw (judged_err j e)
 
 -- a call that was not
-pub call_finished : (img : List ℕ) (lay : Layout) (end : Progress) (queue : Queue) (step : Model → Done) (buffer after : List ℕ) (a : Answered) {A : Type 0} {judged : Result A Fault} {t : A}
-    → verdict_of judged ≡ judged_of img lay (length buffer) → judged ≡ Ok t → Finished img end queue (step (unpack img lay)) → Handed end queue a buffer after
+pub call_finished : (img : List ℕ) (lay : Layout) (end : Progress) (line : Line) (step : Model → Done) (buffer after : List ℕ) (a : Answered) {A : Type 0} {judged : Result A Fault} {t : A}
+    → verdict_of judged ≡ judged_of img lay (length buffer) → judged ≡ Ok t → Finished img end line (step (unpack img lay)) → Handed end line.queue a buffer after
     → handed a after ≡ replied img step lay buffer
 unfolding replied answer_of layout_after buffered
-call_finished img lay end queue step buffer after a j o w h =
+call_finished img lay end line step buffer after a j o w h =
     let done = step (unpack img lay) in
-    let held : states_in end.active ≡ done.layout.states = ap (λ (m : Model). m.states) w.1.is in
-    let whole : record { active = end.active; queue = queue } ≡ pack done.layout = packed img end.active queue end.tidy w.0 ∙ ap pack w.1.is in
+    let held : states_in end.active ≡ done.layout.states = ap (λ (m : Model). m.states) w.is in
+    let whole : record { active = end.active; queue = line.queue } ≡ pack done.layout = packed img end.active line.queue end.tidy line.lined ∙ ap pack w.is in
     let answers : a ≡ record { answer = Ok (record { codes = length (codes done.layout.states); notes = noted no_notes done }); layout = pack done.layout } =
-    h.0 ∙ (λ i. record { answer = Ok (record { codes = length (codes (held i)); notes = w.1.notes i }); layout = whole i }) in
+    h.0 ∙ (λ i. record { answer = Ok (record { codes = length (codes (held i)); notes = w.notes i }); layout = whole i }) in
     let bytes : after ≡ laid (codes done.layout.states) buffer = h.1 ∙ ap (λ (s : List State). laid (codes s) buffer) held in
     rw (judged_ok j o) (λ i. handed (answers i) (bytes i))

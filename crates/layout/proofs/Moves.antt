@@ -18,7 +18,6 @@ use Rattle.layout.specs.Actions.{find, decided}
 use Rattle.layout.specs.Steps.{act, into, into_hold, into_tap, releases, released, overflow, appended, entered, event, older, tick_wait, ticked, tick}
 use Rattle.layout.specs.Packed.{list_in, waiting_of, waits_at, model_of, unpack}
 use Rattle.layout.specs.Notes.{no_notes, note_acted, noted, noted_marks}
-use Rattle.layout.specs.Order.{Lined}
 use Rattle.layout.specs.Inside.{Moves, Did, Steps, becomes, waited_one}
 use Rattle.layout.specs.Effects.{Begun, Settled, Grown}
 use Rattle.layout.specs.declared.active.Active.{Active}
@@ -30,13 +29,14 @@ use Rattle.layout.specs.declared.notes.Notes.{Notes}
 use Rattle.layout.specs.declared.queue.Queue.{Queue}
 use Rattle.layout.specs.declared.effect.Effect.{Effect}
 use Rattle.layout.specs.declared.progress.Progress.{Progress}
+use Rattle.layout.specs.declared.line.Line.{Line}
 use Rattle.layout.specs.declared.layout.Layout.{Layout}
 use Rattle.layout.proofs.Noted.{noted_after}
 use Rattle.layout.proofs.Effects.{did_effect}
 
 -- a call that began with no notes has come to its end by a step, with this queue
-abbrev pub Finished : List ℕ → Progress → Queue → Done → Type 0
-Finished img end queue done = Lined queue × Did img no_notes end (list_in queue) done
+abbrev pub Finished : List ℕ → Progress → Line → Done → Type 0
+Finished img end line done = Did img no_notes end (list_in line.queue) done
 
 module _ (img : List ℕ) where
   pub did_nothing : (end : Progress) (q : List Queued) → Did img end.notes end q (still (model_of img end.active q))
@@ -65,15 +65,13 @@ module _ (img : List ℕ) where
       }
 
   -- a call that began with no notes, and a queue that holds the list l
-  pub finished : (lay : Layout) (begun end : Progress) (queue : Queue) (l : List Queued) (f : Model → Done) → begun.active ≡ lay.active → begun.notes ≡ no_notes → Lined queue → list_in queue ≡ l
-      → Steps img begun end queue f → Finished img end queue (f (with_queue l (unpack img lay)))
-  finished lay begun end queue l f ea en t e d =
-      let first : Did img no_notes end (list_in queue) (f (model_of img lay.active (list_in queue))) = subst (λ (a : Active). Did img no_notes end (list_in queue) (f (model_of img a (list_in queue)))) ea
-      (subst (λ (n : Notes). Did img n end (list_in queue) (f (model_of img begun.active (list_in queue)))) en d) in
-      (t, subst (λ (x : List Queued). Did img no_notes end (list_in queue) (f (model_of img lay.active x))) e first)
-
-  pub finished_as : {end : Progress} {queue : Queue} {x y : Done} → Finished img end queue x → x ≡ y → Finished img end queue y
-  finished_as w e = (w.0, did_as w.1 e)
+  pub finished : (lay : Layout) (begun end : Progress) (line : Line) (l : List Queued) (f : Model → Done) → begun.active ≡ lay.active → begun.notes ≡ no_notes → list_in line.queue ≡ l
+      → Steps img begun end line.queue f → Finished img end line (f (with_queue l (unpack img lay)))
+  finished lay begun end line l f ea en e d =
+      let q = list_in line.queue in
+      let first : Did img no_notes end q (f (model_of img lay.active q)) = subst (λ (a : Active). Did img no_notes end q (f (model_of img a q))) ea
+      (subst (λ (n : Notes). Did img n end q (f (model_of img begun.active q))) en d) in
+      subst (λ (x : List Queued). Did img no_notes end q (f (model_of img lay.active x))) e first
 
 -- an event entered, where there is room and where there is not
 module _ (T : Table) (e : Event) where
@@ -162,18 +160,18 @@ module _ (img : List ℕ) (begun : Progress) (queue : Queue) (w : WaitingState) 
   did_up end h d = did_as img d (sym (wait_up (table_of img) _ (w.left - 1) (omega arith)))
 
 -- a tick of a whole layout, where something waits
-pub tick_goes : (img : List ℕ) (lay : Layout) (begun : Progress) (w : WaitingState) (queue : Queue) (end : Progress) → begun.active ≡ lay.active → begun.notes ≡ no_notes → lay.active.waiting ≡ Some w → Lined queue → list_in queue ≡ older (list_in lay.queue)
-    → Steps img begun end queue (waited_one img w) → Finished img end queue (tick (table_of img) (unpack img lay))
-tick_goes img lay begun w queue end ea en e t eq d =
-    finished_as img (finished img lay begun end queue (older (list_in lay.queue)) (waited_one img w) ea en t eq d)
+pub tick_goes : (img : List ℕ) (lay : Layout) (begun : Progress) (w : WaitingState) (line : Line) (end : Progress) → begun.active ≡ lay.active → begun.notes ≡ no_notes → lay.active.waiting ≡ Some w → list_in line.queue ≡ older (list_in lay.queue)
+    → Steps img begun end line.queue (waited_one img w) → Finished img end line (tick (table_of img) (unpack img lay))
+tick_goes img lay begun w line end ea en e eq d =
+    did_as img (finished img lay begun end line (older (list_in lay.queue)) (waited_one img w) ea en eq d)
     (sym (tick_on (table_of img) (unpack img lay) w.coord w.left w.number _ _ (ap (waiting_of img) e)))
 
 -- an event of a whole layout: it is entered by a step, and then what waits for its release becomes tap
-pub event_goes : (img : List ℕ) (lay : Layout) (begun : Progress) (e : Event) (queue : Queue) (end : Progress) (l : List Queued) (enter : Model → Done) → begun.active ≡ lay.active → begun.notes ≡ no_notes → Lined queue → list_in queue ≡ l
+pub event_goes : (img : List ℕ) (lay : Layout) (begun : Progress) (e : Event) (line : Line) (end : Progress) (l : List Queued) (enter : Model → Done) → begun.active ≡ lay.active → begun.notes ≡ no_notes → list_in line.queue ≡ l
     → entered (table_of img) e (list_in lay.queue) (unpack img lay) ≡ enter (with_queue l (unpack img lay))
-    → Steps img begun end queue (λ (m : Model). after (enter m) (released (table_of img) e (enter m).layout))
-    → Finished img end queue (event (table_of img) e (unpack img lay))
+    → Steps img begun end line.queue (λ (m : Model). after (enter m) (released (table_of img) e (enter m).layout))
+    → Finished img end line (event (table_of img) e (unpack img lay))
 unfolding event
-event_goes img lay begun e queue end l enter ea en t el eq d =
-    finished_as img (finished img lay begun end queue l (λ (m : Model). after (enter m) (released (table_of img) e (enter m).layout)) ea en t el d)
+event_goes img lay begun e line end l enter ea en el eq d =
+    did_as img (finished img lay begun end line l (λ (m : Model). after (enter m) (released (table_of img) e (enter m).layout)) ea en el d)
     (sym (ap (λ (r : Done). after r (released (table_of img) e r.layout)) eq))

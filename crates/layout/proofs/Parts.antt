@@ -2,10 +2,10 @@
 --     new-queue, append-room      a queue of a list, and one event more
 --     new-states, new-waiting     the active part with one part put in, and the move that it is
 use mathlib.Core.Path.{◌≡◌, refl, sym, ap, ◌∙◌}
-use mathlib.Core.List.{List, [], ◌∷◌, ◌++◌, map}
+use mathlib.Core.List.{List, [], ◌∷◌, ◌++◌, append-nil, map}
 use Prim.Native.Nat.{ℕ, suc, ◌+◌, ◌-◌, ◌≤◌, ◌<◌}
 use native.Mathlib.Omega.{arith}
-use lib.ListN.{length, take, drop, set, get_or, replicate, length-take, length-drop, length-map}
+use lib.ListN.{length, take, drop, set, get_or, replicate, length-take, length-drop, length-map, drop_of_length-le}
 use lib.Seq.{length-take-le, append_snoc, set_at}
 use Rattle.event.specs.declared.Event.{Event}
 use Rattle.layout.specs.Model.{Queued, Model, with_states}
@@ -17,7 +17,7 @@ use Rattle.layout.specs.declared.active.State.{State}
 use Rattle.layout.specs.declared.active.Active.{Active}
 use Rattle.layout.specs.declared.queue.Stacked.{Stacked}
 use Rattle.layout.specs.declared.queue.Queue.{Queue}
-use Rattle.layout.proofs.Pads.{held_more, take_pad, length_pad, clean_rest, map-append}
+use Rattle.layout.proofs.Pads.{held_more, take_pad, length_pad, clean_rest, take_all, map-append}
 
 pub tidy_length : (active : Active) → Tidy active → length active.states ≡ 64
 tidy_length active t = rw (← t.clean) (length_pad 64 no_state (take active.len active.states) (simp length-take (omega (arith, t.few))))
@@ -76,17 +76,20 @@ append_room queue e t h =
     let n = new_queue (l ++ (new ∷ [])) (set queue.stacked queue.queued new) (queue.queued + 1) (omega (arith, m.0)) m.0 m.1 in
     (n.0, n.1 ∙ map-append queued_of l (new ∷ []))
 
--- every event one tick older: the new events are put in front of the unused places
-pub aged : (queue : Queue) (new : List Stacked) → Lined queue → new ≡ map older_in (take queue.queued queue.stacked)
+-- every event one tick older: the new events, made up to the last of them, are put in front of the unused places
+pub aged : (queue : Queue) (new : List Stacked) (k : ℕ) → Lined queue → length (take queue.queued queue.stacked) ≤ k
+    → new ≡ map older_in (take k (take queue.queued queue.stacked)) ++ drop k (take queue.queued queue.stacked)
     → let grown : Queue = record { stacked = new ++ drop queue.queued queue.stacked; queued = queue.queued } in
     Lined grown × (list_in grown ≡ older (list_in queue))
-aged queue new t e =
+aged queue new k t done e =
     let n = queue.queued in
     let used = take n queue.stacked in
     let full = lined_length queue t in
     let count : length (map older_in used) ≡ n = rw length-map (length-take-le n queue.stacked (omega (arith, t.few))) in
+    let none = drop_of_length-le used {i = k} done in
+    let all : new ≡ map older_in used = e ∙ rw (take_all used k done, none) (append-nil (map older_in used)) in
     let rest = clean_rest 16 n no_stacked queue.stacked (omega (arith, t.few)) t.clean in
-    let q = new_queue (map older_in used) (new ++ drop n queue.stacked) n (omega (arith, t.few)) (sym count) (rw (e, rest, count)) in
+    let q = new_queue (map older_in used) (new ++ drop n queue.stacked) n (omega (arith, t.few)) (sym count) (rw (all, rest, count)) in
     (q.0, q.1 ∙ older_list used)
 
 take_first : {A : Type 0} (l : List A) (d : A) → 0 < length l → take 1 l ≡ get_or l 0 d ∷ []

@@ -5,9 +5,9 @@ ghost use Rattle.layout.specs.Inside.{Handed};
 
 use super::active::State;
 use super::layout::Layout;
+use super::line::Line;
 use super::notes::Notes;
 use super::progress::Progress;
-use super::queue::Queue;
 use refusal::Fault;
 
 // How many codes were written, and what was done.
@@ -24,9 +24,9 @@ pub struct Answered {
 }
 
 // The answer of a call that was not refused: the key codes in state order go to the start of the buffer.
-pub(crate) fn answer_of(end: Progress, queue: Queue, out: &mut [u8]) -> Answered
+pub(crate) fn answer_of(end: Progress, line: Line, out: &mut [u8]) -> Answered
     requires { 64 ≤ length out.old }
-    ensures { Handed end queue result out.old out.new }
+    ensures { Handed end line.queue result out.old out.new }
 {
     let mut codes = 0;
     for state in &end.active.states[..end.active.len] {
@@ -42,7 +42,7 @@ pub(crate) fn answer_of(end: Progress, queue: Queue, out: &mut [u8]) -> Answered
         }),
         layout: Layout {
             active: end.active,
-            queue,
+            queue: line.queue,
         },
     }
 }

@@ -10,8 +10,9 @@ ghost use Rattle.layout.specs.Inside.{verdict_of};
 use super::accepted::Accepted;
 use super::active::{Active, State};
 use super::answer::{Answer, Answered, answer_of};
+use super::line::Line;
 use super::progress::Progress;
-use super::queue::{Queue, Stacked, age, append, shift};
+use super::queue::{Queue, Stacked};
 use event::Event;
 use image::check;
 use refusal::{Fault, Refusal, rule};
@@ -71,14 +72,15 @@ impl Layout {
             },
             Ok(table) => {
                 let begun = Progress::new(self.active);
+                let line = Line { queue: self.queue };
                 if self.queue.queued < Layout::QUEUE {
-                    let queue = append(self.queue, event);
-                    return answer_of(table.tap_released(&begun, &queue, event), queue, out);
+                    let line = line.append(event);
+                    return answer_of(table.tap_released(&begun, &line, event), line, out);
                 }
                 let oldest = self.queue.stacked[0];
-                let queue = append(shift(&self.queue), event);
-                let next = table.overflow(&begun, &queue, oldest);
-                answer_of(table.tap_released(&next, &queue, event), queue, out)
+                let line = line.shift().append(event);
+                let next = table.overflow(&begun, &line, oldest);
+                answer_of(table.tap_released(&next, &line, event), line, out)
             }
         }
     }
@@ -94,15 +96,15 @@ impl Layout {
             },
             Ok(table) => {
                 let begun = Progress::new(self.active);
-                let queue = age(&self.queue);
+                let line = Line { queue: self.queue }.age();
                 if let Some(w) = self.active.waiting {
-                    return answer_of(table.tick_waiting(&begun, &queue, w), queue, out);
+                    return answer_of(table.tick_waiting(&begun, &line, w), line, out);
                 }
-                if queue.queued == 0 {
-                    return answer_of(begun, queue, out);
+                if line.queue.queued == 0 {
+                    return answer_of(begun, line, out);
                 }
-                let oldest = queue.stacked[0];
-                let rest = shift(&queue);
+                let oldest = line.queue.stacked[0];
+                let rest = line.shift();
                 answer_of(table.unstack(&begun, &rest, oldest), rest, out)
             }
         }
@@ -113,6 +115,7 @@ impl Layout {
         ensures { shown result self out.new ≡ keycodes_reply image.now self out.old }
     {
         judge(image, &self, out.len())?;
-        answer_of(Progress::new(self.active), self.queue, out).answer
+        let line = Line { queue: self.queue };
+        answer_of(Progress::new(self.active), line, out).answer
     }
 }

@@ -8,6 +8,7 @@ pub mod active;
 pub mod answer;
 pub mod effect;
 pub mod layout;
+mod line;
 pub mod notes;
 mod progress;
 pub mod queue;

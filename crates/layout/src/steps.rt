@@ -4,16 +4,16 @@ ghost use Rattle.std.specs.Prelude.{◌≡◌};
 ghost use Rattle.image.specs.Table.{table_of};
 ghost use Rattle.layout.specs.Steps.{released as released_of, overflow as overflow_of};
 ghost use Rattle.layout.specs.Packed.{queued_of};
-ghost use Rattle.layout.specs.Order.{Lined};
 ghost use Rattle.layout.specs.Inside.{PressedTo, Steps, unstacked, becomes as becomes_of, waited_one};
 
 use super::accepted::Accepted;
 use super::action::Setting;
 use super::active::{WaitingState, current_layer, release, with_waiting};
 use super::effect::Effect;
+use super::line::Line;
 use super::notes::{Way, note_acted};
 use super::progress::Progress;
-use super::queue::{Queue, Stacked, find_release, is_release};
+use super::queue::{Stacked, is_release};
 use event::{Coord, Event};
 use image::{Action, action_at, cell_at};
 
@@ -32,9 +32,8 @@ impl Accepted<'_> {
     }
 
     // An event that left the queue is acted on, with its age.
-    pub(crate) fn unstack(&self, begun: &Progress, queue: &Queue, stacked: Stacked) -> Progress
-        requires { Lined queue.now }
-        ensures { Steps self.now.image.now begun.now result queue.now (unstacked self.now.image.now stacked) }
+    pub(crate) fn unstack(&self, begun: &Progress, line: &Line, stacked: Stacked) -> Progress
+        ensures { Steps self.now.image.now begun.now result line.now.queue (unstacked self.now.image.now stacked) }
     {
         let notes = note_acted(begun.notes, stacked.event);
         match stacked.event {
@@ -55,7 +54,7 @@ impl Accepted<'_> {
                 let setting = Setting {
                     coord,
                     delay: stacked.since,
-                    found: find_release(queue, coord),
+                    found: line.find_release(coord),
                 };
                 let mut effect = Effect::new(begun, notes);
                 self.do_action(&mut effect, n, setting);
@@ -66,14 +65,13 @@ impl Accepted<'_> {
 
     // What waits becomes hold or tap, which is keyberon's waiting_into_hold and waiting_into_tap: with no delay, and with the
     // first queued release of its key.
-    fn becomes(&self, begun: &Progress, queue: &Queue, w: WaitingState, way: Way) -> Progress
-        requires { Lined queue.now }
-        ensures { Steps self.now.image.now begun.now result queue.now (becomes_of self.now.image.now way w) }
+    fn becomes(&self, begun: &Progress, line: &Line, w: WaitingState, way: Way) -> Progress
+        ensures { Steps self.now.image.now begun.now result line.now.queue (becomes_of self.now.image.now way w) }
     {
         let setting = Setting {
             coord: w.coord,
             delay: 0,
-            found: find_release(queue, w.coord),
+            found: line.find_release(w.coord),
         };
         let mut effect = Effect::new(begun, begun.notes);
         self.decide(&mut effect, w.number, setting, way);
@@ -81,32 +79,29 @@ impl Accepted<'_> {
     }
 
     // The oldest event left a full queue: what waits becomes hold, then that event is acted on.
-    pub(crate) fn overflow(&self, begun: &Progress, queue: &Queue, oldest: Stacked) -> Progress
-        requires { Lined queue.now }
-        ensures { Steps self.now.image.now begun.now result queue.now (overflow_of (table_of self.now.image.now) (queued_of oldest)) }
+    pub(crate) fn overflow(&self, begun: &Progress, line: &Line, oldest: Stacked) -> Progress
+        ensures { Steps self.now.image.now begun.now result line.now.queue (overflow_of (table_of self.now.image.now) (queued_of oldest)) }
     {
         let Some(w) = begun.active.waiting else {
-            return self.unstack(begun, queue, oldest);
+            return self.unstack(begun, line, oldest);
         };
-        let held = self.becomes(begun, queue, w, Way::Hold);
-        self.unstack(&held, queue, oldest)
+        let held = self.becomes(begun, line, w, Way::Hold);
+        self.unstack(&held, line, oldest)
     }
 
     // If the new event releases a waiting key, it becomes tap. The release stays queued.
-    pub(crate) fn tap_released(&self, begun: &Progress, queue: &Queue, event: Event) -> Progress
-        requires { Lined queue.now }
-        ensures { Steps self.now.image.now begun.now result queue.now (released_of (table_of self.now.image.now) event) }
+    pub(crate) fn tap_released(&self, begun: &Progress, line: &Line, event: Event) -> Progress
+        ensures { Steps self.now.image.now begun.now result line.now.queue (released_of (table_of self.now.image.now) event) }
     {
         match begun.active.waiting {
-            Some(w) if is_release(event, w.coord) => { self.becomes(begun, queue, w, Way::Tap) }
+            Some(w) if is_release(event, w.coord) => { self.becomes(begun, line, w, Way::Tap) }
             _ => *begun,
         }
     }
 
     // A tick while a hold-tap waits: it has a tick less, and becomes hold where none is left.
-    pub(crate) fn tick_waiting(&self, begun: &Progress, queue: &Queue, w: WaitingState) -> Progress
-        requires { Lined queue.now }
-        ensures { Steps self.now.image.now begun.now result queue.now (waited_one self.now.image.now w) }
+    pub(crate) fn tick_waiting(&self, begun: &Progress, line: &Line, w: WaitingState) -> Progress
+        ensures { Steps self.now.image.now begun.now result line.now.queue (waited_one self.now.image.now w) }
     {
         let left = w.left.saturating_sub(1);
         if 0 < left {
@@ -116,6 +111,6 @@ impl Accepted<'_> {
                 notes: begun.notes,
             };
         }
-        self.becomes(begun, queue, w, Way::Hold)
+        self.becomes(begun, line, w, Way::Hold)
     }
 }

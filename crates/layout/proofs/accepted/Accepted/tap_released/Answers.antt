@@ -14,7 +14,7 @@ use Rattle.layout.proofs.accepted.Accepted.tap_released.Goals.{in_default-via-in
 pub returns-in-Some : goal.returns-in-Some
 returns-in-Some c =
     let img = c.args.self.now.image.now in
-    let q = list_in c.args.queue.now in
+    let q = list_in c.args.line.now.queue in
     did_as img
     (into_on img c.args.begun.now Tap q c.becomes.result _ c.in-Some.is c.becomes.ensures)
     (sym (released_yes (table_of img) c.args.event (model_of img c.args.begun.now.active q)
@@ -23,7 +23,7 @@ returns-in-Some c =
 pub returns-in_default : goal.returns-in_default
 returns-in_default c =
     let img = c.args.self.now.image.now in
-    let q = list_in c.args.queue.now in
+    let q = list_in c.args.line.now.queue in
     let stays : releases c.args.event (waiting_of img c.args.begun.now.active.waiting) ≡ false =
     elim c.in_default.branch [
       | in_default-via-in-Some+else-is_release w ↦

@@ -6,13 +6,13 @@ use Rattle.layout.proofs.accepted.Accepted.tick_waiting.Goals as goal
 pub returns-then-left-gt0 : goal.returns-then-left-gt0
 returns-then-left-gt0 c =
     let img = c.args.self.now.image.now in
-    did_waiting img c.args.begun.now c.args.queue.now c.args.w c.saturating_sub-left.result c.saturating_sub-left.ensures
+    did_waiting img c.args.begun.now c.args.line.now.queue c.args.w c.saturating_sub-left.result c.saturating_sub-left.ensures
     _ refl (c.with_waiting.ensures img) c.if-left-gt0.true
 
 pub returns : goal.returns
 returns c =
     let img = c.args.self.now.image.now in
-    did_up img c.args.begun.now c.args.queue.now c.args.w c.saturating_sub-left.result c.saturating_sub-left.ensures
+    did_up img c.args.begun.now c.args.line.now.queue c.args.w c.saturating_sub-left.result c.saturating_sub-left.ensures
     c.becomes.result c.if-left-gt0.false c.becomes.ensures
 
 pub invariant_of-result : goal.invariant_of-result

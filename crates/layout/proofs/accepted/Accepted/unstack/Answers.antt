@@ -12,7 +12,7 @@ use Rattle.layout.proofs.accepted.Accepted.unstack.Goals as goal
 pub returns-in-Release : goal.returns-in-Release
 returns-in-Release c =
     let img = c.args.self.now.image.now in
-    let q = list_in c.args.queue.now in
+    let q = list_in c.args.line.now.queue in
     release_acts img c.args.begun.now.active c.args.begun.now.notes c.note_acted-notes.result _ q c.args.stacked.event _ _ c.args.stacked.since
     c.note_acted-notes.ensures c.in-Release.is
     (did_moves img c.args.begun.now.active _ q (c.release.ensures img))
@@ -21,7 +21,7 @@ pub returns-in_default : goal.returns-in_default
 unfolding do_action tree_in
 returns-in_default c =
     let img = c.args.self.now.image.now in
-    let q = list_in c.args.queue.now in
+    let q = list_in c.args.line.now.queue in
     let notes = c.note_acted-notes.result in
     press_acts img c.args.begun.now.active c.args.begun.now.notes notes _ q c.args.stacked.event _ _
     c.args.stacked.since c.note_acted-notes.ensures None c.in-Press.is
@@ -32,7 +32,7 @@ pub returns : goal.returns
 unfolding tree_in
 returns c =
     let img = c.args.self.now.image.now in
-    let q = list_in c.args.queue.now in
+    let q = list_in c.args.line.now.queue in
     press_acts img c.args.begun.now.active c.args.begun.now.notes c.note_acted-notes.result c.after_effect.result q c.args.stacked.event _ _
     c.args.stacked.since c.note_acted-notes.ensures (Some _) c.in-Press.is
     (ap (tree_in img) (sym c.in-Some.is) ∙ c.press_as_action.ensures q)

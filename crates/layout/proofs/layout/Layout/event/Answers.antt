@@ -24,23 +24,23 @@ returns-then-self-lt-QUEUE c =
     let T = table_of img in
     let r = c.in-Ok.ensures.ready.0 in
     let long = list_length lay.queue r.lined in
-    let queue = c.append-queue.result in
-    call_finished img lay c.tap_released.result queue (event T e) c.args.out.now _ c.answer_of.result c.judge.ensures.is c.in-Ok.is
-    (event_goes img lay c.new-begun.result e queue c.tap_released.result
-    (appended e (list_in lay.queue)) still c.new-begun.ensures.0 c.new-begun.ensures.1 c.append-queue.ensures.0 c.append-queue.ensures.1
+    let line = c.append-line.result in
+    call_finished img lay c.tap_released.result line (event T e) c.args.out.now _ c.answer_of.result c.judge.ensures.is c.in-Ok.is
+    (event_goes img lay c.new-begun.result e line c.tap_released.result
+    (appended e (list_in lay.queue)) still c.new-begun.ensures.0 c.new-begun.ensures.1 c.append-line.ensures
     (entered_room T e (list_in lay.queue) (unpack img lay) (omega (arith, long, c.if-self-lt-QUEUE.true)))
-    (did_then img (released T e) (did_nothing img c.new-begun.result (list_in queue)) (rw c.in-Ok.ensures.of at c.tap_released.ensures)))
+    (did_then img (released T e) (did_nothing img c.new-begun.result (list_in line.queue)) (rw c.in-Ok.ensures.of at c.tap_released.ensures)))
     c.answer_of.ensures
 
 -- there is none: the oldest leaves
-pub append-queue-requires-in-Ok : goal.append-queue-requires-in-Ok
-append-queue-requires-in-Ok c =
+pub append-line-requires-in-Ok : goal.append-line-requires-in-Ok
+append-line-requires-in-Ok c =
     let q = c.args.self.queue in
     let r = c.in-Ok.ensures.ready.0 in
     let long = list_length q r.lined in
-    let less = list_length c.shift.result c.shift.ensures.0 in
-    let count = ap length c.shift.ensures.1 in
-    (c.shift.ensures.0, omega (arith, less, count, length-drop 1 (list_in q), long, r.lined.few))
+    let less = list_length c.shift.result.queue c.shift.result.lined in
+    let count = ap length c.shift.ensures in
+    omega (arith, less, count, length-drop 1 (list_in q), long, r.lined.few)
 
 pub returns-else-self-lt-QUEUE : goal.returns-else-self-lt-QUEUE
 returns-else-self-lt-QUEUE c =
@@ -52,14 +52,14 @@ returns-else-self-lt-QUEUE c =
     let r = c.in-Ok.ensures.ready.0 in
     let old = get_or lay.queue.stacked 0 no_stacked in
     let long = list_length lay.queue r.lined in
-    let queue = c.append-queue-in-Ok.result in
+    let line = c.append-line-in-Ok.result in
     let first : queued_of old ≡ get_or q 0 (queued_of no_stacked) = ap queued_of
     (sym (get_or-take lay.queue.queued lay.queue.stacked 0 no_stacked (omega (arith, c.if-self-lt-QUEUE.false)))) ∙ sym
     (get_or-map queued_of (take lay.queue.queued lay.queue.stacked) 0 no_stacked) in
-    call_finished img lay c.tap_released-in-Ok.result queue (event T e) c.args.out.now _ c.answer_of-in-Ok.result c.judge.ensures.is c.in-Ok.is
-    (event_goes img lay c.new-begun.result e queue c.tap_released-in-Ok.result (appended e (drop 1 q))
-    (overflow T (queued_of old)) c.new-begun.ensures.0 c.new-begun.ensures.1 c.append-queue-in-Ok.ensures.0
-    (c.append-queue-in-Ok.ensures.1 ∙ ap (appended e) c.shift.ensures.1)
+    call_finished img lay c.tap_released-in-Ok.result line (event T e) c.args.out.now _ c.answer_of-in-Ok.result c.judge.ensures.is c.in-Ok.is
+    (event_goes img lay c.new-begun.result e line c.tap_released-in-Ok.result (appended e (drop 1 q))
+    (overflow T (queued_of old)) c.new-begun.ensures.0 c.new-begun.ensures.1
+    (c.append-line-in-Ok.ensures ∙ ap (appended e) c.shift.ensures)
     (entered_full T e q (unpack img lay) (queued_of no_stacked) (omega (arith, long, c.if-self-lt-QUEUE.false)) ∙ sym
     (ap (λ (x : Queued). overflow T x (model_of img lay.active (appended e (drop 1 q)))) first))
     (did_then img (released T e) (rw c.in-Ok.ensures.of at c.overflow-next.ensures) (rw c.in-Ok.ensures.of at c.tap_released-in-Ok.ensures)))
