@@ -134,6 +134,11 @@ module _ (img : List ℕ) (r l n first count : ℕ) (p : Placed img r l) (f : Fo
   pub all_rules : rule (every (λ k. ltb k n) (all_of img l first count)) refusal.Child n (rule (shut_but_last (named (tree img) (all_of img l first count))) refusal.Nested n (rule (leb (1 + weights (named (tree img) (all_of img l first count))) 64) refusal.Weight n fine)) ≡ record_fault img n
   all_rules = rw (entries_at img r l first count p) at (actions_rules img n f first count is)
 
+  -- all are lower where all but the last are, and the last is; where one of them is not, not all are
+  pub all_low : every (λ k. ltb k n) (all_of img l first count) ≡ (every (λ k. ltb k n) (most_of img l first count) && every (λ k. ltb k n) (words_from img (l + 2 * first + 2 * (count - 1)) 1))
+  unfolding words_from
+  all_low = ap (every (λ k. ltb k n)) parted ∙ every_last (λ k. ltb k n) (most_of img l first count) (last_of img l first count) ∙ ap (λ b. every (λ k. ltb k n) (most_of img l first count) && b) (sym (every_one (λ k. ltb k n) (last_of img l first count)))
+
   module _ (low : every (λ k. ltb k n) (all_of img l first count) ≡ true) where
     both : (every (λ k. ltb k n) (most_of img l first count) ≡ true) × (ltb (last_of img l first count) n ≡ true)
     both = both_true _ _ (sym (every_last (λ k. ltb k n) (most_of img l first count) (last_of img l first count)) ∙ ap (every (λ k. ltb k n)) (sym parted) ∙ low)

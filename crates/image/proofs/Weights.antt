@@ -8,9 +8,12 @@ use native.Mathlib.Omega.{arith}
 use borrow.Author.Tests.{leb-true, leb-false, eqb-true, eqb-false, ltb-true, lt-leb, ne_eqb}
 use lib.ListN.{length}
 use lib.Dec.{eqb, leb, ltb}
+use Rattle.std.specs.Prelude.{Ok, Err}
 use Rattle.lists.specs.Lists.{every}
+use Rattle.refusal.specs.Verdict.{Verdict, fine, granted}
+use Rattle.refusal.specs.declared.Fault.{Fault}
 use Rattle.lists.proofs.Laws.{every_head}
-use Rattle.image.specs.Inside.{Formed, children_at, weighed_of, Parts}
+use Rattle.image.specs.Inside.{Formed, WithChild, children_at, weighed_of, Parts}
 use Rattle.image.specs.declared.body.Body.{Body}
 use Rattle.image.specs.declared.words.Shape.{Shape}
 use Rattle.image.specs.Sound.{Framed}
@@ -43,18 +46,13 @@ or_assoc : (a b c : Bool) → ((a || b) || c) ≡ (a || (b || c))
 or_assoc true b c = refl
 or_assoc false b c = refl
 
--- what is found of a child: what it weighs more than 1, and whether it is open
-pub record OfChild (img : List ℕ) (k more : ℕ) (o : Bool) : Type 0 where
-  pub weighs : 1 + more ≡ weight (tree img k)
-  pub opens : o ≡ open? (tree img k)
-
--- what is left falls by what is found of the first
-pub children_step : (img : List ℕ) (at n i k : ℕ) {more : ℕ} {o : Bool} → i < n → k ≡ word_at img (at + 2 * i) → OfChild img k more o
-    → (weights (children_after img at n i) ≡ 1 + more + weights (children_after img at n (i + 1))) × (some_open (children_after img at n i) ≡ (o || some_open (children_after img at n (i + 1))))
+-- what is left falls by the first
+pub children_step : (img : List ℕ) (at n i k : ℕ) → i < n → k ≡ word_at img (at + 2 * i)
+    → (weights (children_after img at n i) ≡ weight (tree img k) + weights (children_after img at n (i + 1))) × (some_open (children_after img at n i) ≡ (open? (tree img k) || some_open (children_after img at n (i + 1))))
 unfolding weight open?
-children_step img at n i k p e f =
+children_step img at n i k p e =
     let r = words_on img at n i (tree img) p in
-    (ap weights r ∙ rw (f.weighs, e), ap some_open r ∙ rw (f.opens, e))
+    (ap weights r ∙ rw e refl, ap some_open r ∙ rw e refl)
 
 pub children_end : (img : List ℕ) (at left : ℕ) → left ≤ 0 → (weights (children_at img at left) ≡ 0) × (some_open (children_at img at left) ≡ false)
 unfolding weight open?
@@ -69,15 +67,36 @@ opens_end {o} q r = sym (or_false o) ∙ ap (λ z. o || z) (sym q) ∙ r
 pub weighed_is : {w : ℕ} {o : Bool} (actions : Actions) → w ≡ weights actions → o ≡ some_open actions → record { weight = w; opens = o } ≡ weighed_of actions
 weighed_is actions p q = λ i. record { weight = p i; opens = q i }
 
--- a child that has no children of its own, and one that has, when these are weighed
-pub leaf : (img : List ℕ) (k : ℕ) (it : Child) → Parts img k it → it.count ≡ 0 → OfChild img k it.b it.opens
-leaf img k it p e = record { weighs = p.alone e; opens = opens_end (children_end img it.at it.count (omega (arith, e))).1 p.opens }
+-- children asked whether all are lower, by what is asked: one is not, and all are
+pub weighed_no : (v : Verdict) (w : Weighed) {a : Fault} → v ≡ Err a → Err a ≡ granted v w
+weighed_no v w e = rw e refl
 
-pub parent : (img : List ℕ) (k : ℕ) (it : Child) (s : Weighed) {o : Bool} → Parts img k it → (it.count ≡ 0 → ⊥) → s ≡ weighed_of (children_at img it.at it.count) → o ≡ (it.opens || s.opens) → OfChild img k s.weight o
-parent img k it s p h e q =
+pub weighed_yes : (v : Verdict) {s w : Weighed} → v ≡ fine → s ≡ w → Ok s ≡ granted v w
+weighed_yes v e f = rw (e, f) refl
+
+-- and what it was, by what is answered
+pub weighed_err : (v : Verdict) (w : Weighed) {a : Fault} → Err a ≡ granted v w → v ≡ Err a
+weighed_err (Ok u) w e = cc
+weighed_err (Err f) w e = cc
+
+pub weighed_ok : (v : Verdict) (w : Weighed) {s : Weighed} → Ok s ≡ granted v w → (v ≡ fine) × (s ≡ w)
+weighed_ok (Ok u) w e = (refl, cc)
+weighed_ok (Err f) w e = (cc, cc)
+
+-- a child that has no children of its own, and one that has, when these are weighed
+pub leaf : (img : List ℕ) (k : ℕ) (it : Child) (before : Weighed) → Parts img k it → it.count ≡ 0 → WithChild img k before (record { weight = before.weight + it.b; opens = before.opens || it.opens })
+leaf img k it before p e =
+    record {
+      weighs = omega (arith, p.alone e);
+      opens = ap (λ z. before.opens || z) (opens_end (children_end img it.at it.count (omega (arith, e))).1 p.opens);
+    }
+
+pub parent : (img : List ℕ) (k : ℕ) (it : Child) (before s : Weighed) → Parts img k it → (it.count ≡ 0 → ⊥) → s ≡ weighed_of (children_at img it.at it.count)
+    → WithChild img k before (record { weight = before.weight + s.weight; opens = (before.opens || it.opens) || s.opens })
+parent img k it before s p h e =
     record {
       weighs = omega (arith, ap (λ (s : Weighed). s.weight) e, p.weighs (omega (arith, h)));
-      opens = q ∙ ap (λ (s : Weighed). it.opens || s.opens) e ∙ p.opens;
+      opens = or_assoc before.opens it.opens s.opens ∙ ap (λ z. before.opens || z) (ap (λ (s : Weighed). it.opens || s.opens) e ∙ p.opens);
     }
 
 -- a list and one more: lower, open, weight

@@ -1,14 +1,17 @@
 -- What the check's own functions promise to each other, and no public promise speaks of: what is known of the image where they
 -- are called, and what one pass over the children of a record finds for the rules 7 Child, 8 Nested and 9 Weight.
 -- Assumes nothing.
-use Rattle.std.specs.Prelude.{ℕ, ◌+◌, ◌*◌, ◌<◌, ◌≤◌, ◌≡◌, true, ◌||◌, List, length, ltb}
+use Rattle.std.specs.Prelude.{ℕ, ◌+◌, ◌*◌, ◌<◌, ◌≤◌, ◌≡◌, true, ◌||◌, List, length, ltb, Result}
+use Rattle.refusal.specs.Verdict.{kept_or, granted}
+use Rattle.refusal.specs.declared.Fault.{Fault}
+use Rattle.refusal.specs.declared.Refusal.TheVariants.{Child}
 use Rattle.lists.specs.Lists.{every}
 use Rattle.image.specs.Words.{records_of, words_from}
 use Rattle.image.specs.Tree.{Actions, named, tree, open?, some_open, weight, weights}
 use Rattle.image.specs.Check.{form_good}
 use Rattle.image.specs.Sound.{Good}
 use Rattle.image.specs.declared.words.Shape.{Shape}
-use Rattle.image.specs.declared.children.Child.{Child}
+use Rattle.image.specs.declared.children.Child.{Child as Part}
 use Rattle.image.specs.declared.children.Weighed.{Weighed}
 
 -- the counts of a header that keeps their rules
@@ -39,8 +42,17 @@ children_at img at count = named (tree img) (words_from img at count)
 abbrev pub weighed_of : Actions → Weighed
 weighed_of actions = record { weight = weights actions; opens = some_open actions }
 
+-- the same of words that are asked whether all number records below n: where one does not, Child
+abbrev pub lower_weighed : List ℕ → ℕ → ℕ → ℕ → Result Weighed Fault
+lower_weighed img n at count = granted (kept_or (every (λ k. ltb k n) (words_from img at count)) Child n) (weighed_of (children_at img at count))
+
+-- children with record k among them, counted as 1 before: it adds what it weighs more, and is open or not
+pub record WithChild (img : List ℕ) (k : ℕ) (before after : Weighed) : Type 0 where
+  pub weighs : 1 + after.weight ≡ before.weight + weight (tree img k)
+  pub opens : after.opens ≡ (before.opens || open? (tree img k))
+
 -- record n is what it is by itself, and its children: without any it weighs 1 and its word b, else 1 and what they weigh
-pub record Parts (img : List ℕ) (n : ℕ) (it : Child) : Type 0 where
+pub record Parts (img : List ℕ) (n : ℕ) (it : Part) : Type 0 where
   pub words : ChildWords img n it.at it.count
   pub alone : it.count ≡ 0 → 1 + it.b ≡ weight (tree img n)
   pub weighs : 0 < it.count → 1 + weights (children_at img it.at it.count) ≡ weight (tree img n)

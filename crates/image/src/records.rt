@@ -65,9 +65,8 @@ impl Body<'_> {
             return Ok(());
         }
         let at = self.shape.list_at + 2 * first;
-        rule(self.are_lower(n, at, count), Refusal::Child, n)?;
-        let most = self.weigh(n, at, count - 1);
-        let last = self.weigh(n, at + 2 * (count - 1), 1);
+        let most = self.weigh_lower(n, at, count - 1)?;
+        let last = self.weigh_lower(n, at + 2 * (count - 1), 1)?;
         rule(!most.opens, Refusal::Nested, n)?;
         rule(1 + (most.weight + last.weight) <= 64, Refusal::Weight, n)
     }
@@ -78,8 +77,7 @@ impl Body<'_> {
         ensures { result ≡ record_fault self.now.image.now n }
     {
         let at = self.shape.records_at + 8 * n + 4;
-        rule(self.are_lower(n, at, 2), Refusal::Child, n)?;
-        let sum = self.weigh(n, at, 2);
+        let sum = self.weigh_lower(n, at, 2)?;
         rule(!sum.opens, Refusal::Nested, n)?;
         rule(1 + sum.weight <= 64, Refusal::Weight, n)
     }
