@@ -2,7 +2,7 @@
 use super::say;
 use super::words::{ROOM, hex};
 use codes::KbHidReport;
-use image::{Source, check, in_use, source_of};
+use image::{Source, check, in_use, refusal_in_use, source_of};
 use text::{Text, front};
 
 // The image that stands, legal or not, and so many bytes of it: there is no heap. A line has room for fewer.
@@ -49,6 +49,6 @@ pub fn areas(operator: &[u8], built_in: &[u8]) -> Option<Text> {
     Some(match source_of(operator, built_in) {
         Ok(Source::Operator(_)) => say::number(b"operator ", length),
         Ok(Source::BuiltIn(_)) => say::number(b"built-in ", length),
-        Err(fault) => say::refused(fault),
+        Err(_) => say::refused(refusal_in_use(operator, built_in)?),
     })
 }

@@ -1,5 +1,5 @@
 // The lines of a table's text: `write`, `print`; and the answer to a call that makes bytes, which `compare` gives too. It may be
-// longer than a `Text`, so a long one is written here in pieces. Assumes nothing.
+// longer than a `Text`, so all but its last piece is written here. Assumes nothing.
 use super::commands::Texts;
 use super::say;
 use super::say::FILL;
@@ -18,17 +18,16 @@ fn write_piece(stdout: Stdout, text: Text) {
     let _ = write_all(stdout, front(&text.bytes, text.len)); // the rest of the line fails too, and that is told
 }
 
-// Bytes in hex, `-` for none, behind the answer's first word. They are written but for what is handed back.
+// Bytes in hex, `-` for none, behind the answer's first word. Every piece but the last is written, and that one handed back: it
+// goes out with its newline in one write, whose failure ends the program.
 fn put_long(stdout: Stdout, said: Text, bytes: &[u8]) -> Text {
-    if bytes.len() <= PIECE {
-        return say::hex(said, bytes);
-    }
+    let (pieces, last) = bytes.split_at(bytes.len().saturating_sub(1) / PIECE * PIECE);
     let mut text = said;
-    for piece in bytes.chunks(PIECE) {
+    for piece in pieces.chunks(PIECE) {
         write_piece(stdout, text.put_hex(piece));
         text = Text::new();
     }
-    text
+    say::hex(text, last)
 }
 
 // The result in hex, the bytes that a call says that it made; `spilt` where one past them was written. `Text::put_number` puts
