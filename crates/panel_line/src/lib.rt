@@ -15,7 +15,7 @@ pub enum Line {
     Tick,
 }
 
-// The place of the first space, if there is one. A function for its clause: written where it is asked, the proof did not close.
+// The place of the first space, if there is one. A function for its clause: written where it is asked, the search leaves it.
 fn space(bytes: &[u8]) -> Option<usize>
     ensures { result ≡ position (λ c. c == 32) bytes.now }
 {

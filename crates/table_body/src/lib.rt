@@ -26,7 +26,7 @@ const IMAGE: usize = 6161;
 // Room for the text of every image that is accepted: 14,352 bytes at most.
 const PRINTED: usize = 16384;
 
-// Zeros, by a call: written where they are lent, their million is counted out one by one in the proof, and it does not end.
+// Zeros, by a call: the checker would count them out one by one where they are lent.
 fn text_room() -> [u8; TEXT]
     ensures { length result ≡ 1048577 }
 {

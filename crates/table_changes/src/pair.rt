@@ -1,4 +1,4 @@
-// Two accepted tables of equal sizes, which the comparison asks of.
+// Two accepted tables, which the comparison asks of.
 // Assumes nothing.
 ghost use Rattle.std.specs.Prelude.{◌≡◌};
 ghost use Rattle.image.specs.Sound.{Sound};

@@ -59,7 +59,7 @@ pub fn front(bytes: &[u8], n: usize) -> &[u8]
     bytes.get(..n).unwrap_or(&[])
 }
 
-// The place of the first newline, if there is one. A function for its clause: written where it is asked, the proof did not close.
+// The place of the first newline, if there is one. A function for its clause: written where it is asked, the search leaves it.
 fn newline(bytes: &[u8]) -> Option<usize>
     ensures { result ≡ position (λ c. c == 10) bytes.now }
 {
