@@ -50,6 +50,13 @@ pub type Updated = Handed<bool>;
 // How many events were written, three bytes each.
 pub type Answered = Handed<usize>;
 
+// An answer, and the accepted picture; where it is refused, one that is all up.
+#[derive(Clone, Copy, PartialEq, Eq)]
+pub struct Got {
+    pub answer: Result<(), Fault>,
+    pub picture: [u8; 128],
+}
+
 // What one scan leaves, and whether the accepted picture changed.
 #[derive(Clone, Copy)]
 pub(crate) struct Step {
@@ -144,11 +151,22 @@ impl Debouncer {
     }
 
     // The accepted picture.
-    pub fn get(self) -> Result<[u8; 128], Fault>
+    pub fn get(self) -> Got
         ensures { got_said result ≡ get_reply self }
     {
-        self.legal()?;
-        Ok(self.cur)
+        match self.legal() {
+            Ok(_) => {
+                let picture = self.cur;
+                Got {
+                    answer: Ok(()),
+                    picture,
+                }
+            }
+            Err(fault) => Got {
+                answer: Err(fault),
+                picture: [0; 128],
+            },
+        }
     }
 
     // Takes a scan, and answers whether the accepted picture changed.
