@@ -1,17 +1,18 @@
 -- Laws of pictures and their tests, and of lists that are equal. Assumes nothing.
-use Prim.Native.Nat.{ℕ, zero, suc, ◌+◌, ◌-◌, ◌<◌}
+use Prim.Native.Nat.{ℕ, zero, suc, ◌+◌, ◌-◌, ◌<◌, ◌≤◌}
 use mathlib.Core.Bool.{Bool, true, false, ◌&&◌, and-true, and-false, and_assoc}
-use mathlib.Core.List.{List, [], ◌∷◌}
+use mathlib.Core.List.{List, [], ◌∷◌, ◌++◌}
 use mathlib.Core.Path.{◌≡◌, refl, sym, ap, ◌∙◌}
 use native.Mathlib.Numerals.{add-one}
 use native.Mathlib.Omega.{arith}
-use borrow.Author.Tests.{le-leb, lt-leb, eqb-true, eqb-false}
+use borrow.Author.Tests.{le-leb, lt-leb, eq-eqb, eqb-true, eqb-false}
 use lib.Dec.{eqb, leb}
-use lib.ListN.{length, take, drop, get_or, take-append-drop, length-drop}
+use lib.ListN.{length, take, drop, get_or, replicate, take-append-drop, length-drop}
 use lib.Seq.{take_all}
+use Rattle.std.proofs.lemmas.List.{length-take-le, append-nil, drop-replicate}
 use Rattle.lists.specs.Lists.{every, alike}
-use Rattle.lists.proofs.Laws.{both_true, every_split}
-use Rattle.debounce.specs.Picture.{binary, unused, is_picture, is_scan}
+use Rattle.lists.proofs.Laws.{both_true, every_split, every_replicate}
+use Rattle.debounce.specs.Picture.{padded, binary, unused, is_picture, is_scan}
 use Rattle.debounce.specs.Inside.{at_most}
 
 -- an unused place is 0: at most 0, and so at most 1
@@ -47,6 +48,27 @@ picture_else n l e = rw e (and-false (every binary (take n l)))
 -- a slice to the end of the 128 places has those from n on
 pub unused_past : (n : ℕ) (l : List ℕ) → length l ≡ 128 → every (at_most 0) (take (128 - n) (drop n l)) ≡ every unused (drop n l)
 unused_past n l long = rw (take_all (128 - n) (drop n l) (omega (arith, length-drop n l))) (sym (unused_all (drop n l)))
+
+-- the bytes of a scan that has as many as there are places, or more; and of one that fits, with zeros to the 128th place
+pub pad_long : (scan : List ℕ) → 128 ≤ length scan → take 128 scan ≡ padded (take 128 scan)
+pad_long scan long = rw (length-take-le 128 scan long) (sym (append-nil (take 128 scan)))
+
+pub pad_short : (scan : List ℕ) → length scan ≤ 128 → scan ++ drop (length scan) (replicate 128 0) ≡ padded (take 128 scan)
+pad_short scan short = rw (take_all 128 scan short, drop-replicate {X = ℕ} (length scan) 128 0) refl
+
+-- a scan that fits has all its bytes in its places, and the rest of them are 0
+pub pad_fits : (scan : List ℕ) → length scan ≤ 128 → padded (take 128 scan) ≡ padded scan
+pad_fits scan h = ap padded (take_all 128 scan h)
+
+pad_binary : (scan : List ℕ) → every binary (padded scan) ≡ every binary scan
+pad_binary scan =
+    every_split binary scan (replicate (128 - length scan) 0)
+    ∙ rw (every_replicate binary (128 - length scan) 0 refl) (and-true (every binary scan))
+
+-- so its places tell of it
+pub scan_then : (n : ℕ) (scan : List ℕ) → n ≤ 128 → length scan ≡ n → every binary (padded (take 128 scan)) ≡ is_scan n scan
+unfolding is_scan
+scan_then n scan few long = rw (eq-eqb (length scan) n long, pad_fits scan (omega arith)) (pad_binary scan)
 
 pub scan_long : (n : ℕ) (scan : List ℕ) → is_scan n scan ≡ true → length scan ≡ n
 unfolding is_scan

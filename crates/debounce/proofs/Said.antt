@@ -3,17 +3,16 @@ use Prim.Native.Nat.{ℕ}
 use mathlib.Core.Bool.{Bool, false}
 use mathlib.Core.List.{List}
 use mathlib.Core.Path.{◌≡◌, ap}
-use Rattle.std.specs.Prelude.{Result, ⊤}
+use Rattle.std.specs.Prelude.{⊤}
 use Rattle.refusal.specs.Said.{Said}
-use Rattle.refusal.specs.declared.Fault.{Fault}
 use Rattle.refusal.proofs.Said.{said_one}
-use Rattle.debounce.specs.Picture.{all_up}
 use Rattle.debounce.specs.Calls.{made_said, got_said, updated_said, Reply, handed}
 use Rattle.debounce.specs.declared.Debouncer.{Debouncer}
 use Rattle.debounce.specs.declared.Handed.{Handed}
+use Rattle.debounce.specs.declared.Got.{Got}
 
--- what is said without the debouncer
-abbrev alone : Said Debouncer → Said ⊤
+-- what is said without the values, and without the debouncer
+abbrev alone : {A : Type 0} → Said A → Said ⊤
 alone s = record { number = s.number; place = s.place; values = tt }
 
 abbrev bare : {A : Type 0} → Said (A × Debouncer) → Said A
@@ -24,8 +23,10 @@ made_one x y e =
     let same = said_one tt x.answer y.answer (ap alone e) in
     λ i. record { answer = same i; debouncer = (e i).values }
 
-pub got_one : (x y : Result (List ℕ) Fault) → got_said x ≡ got_said y → x ≡ y
-got_one = said_one all_up
+pub got_one : (x y : Got) → got_said x ≡ got_said y → x ≡ y
+got_one x y e =
+    let same = said_one tt x.answer y.answer (ap alone e) in
+    λ i. record { answer = same i; picture = (e i).values }
 
 pub updated_one : (x y : Handed Bool) → updated_said x ≡ updated_said y → x ≡ y
 updated_one x y e =

@@ -1,10 +1,9 @@
 -- What each call answers: document 01, Debounce, and the refusals 10 to 13 in the order that "Refusal numbers" gives.
 -- Assumes nothing.
-use Rattle.std.specs.Prelude.{ℕ, ◌*◌, Bool, false, cond, ◌&&◌, List, [], leb, ltb, length, take, Result, Ok, Err, ⊤}
+use Rattle.std.specs.Prelude.{ℕ, ◌*◌, Bool, false, cond, ◌&&◌, List, [], leb, ltb, length, take, Ok, Err, ⊤}
 use Rattle.refusal.specs.Verdict.{Verdict, fine, rule, granted}
 use Rattle.refusal.specs.Said.{Said, said}
 use Rattle.refusal.specs.declared.Refusal.TheVariants.{Scan, Bounce, Room, State}
-use Rattle.refusal.specs.declared.Fault.{Fault}
 use Rattle.event.specs.declared.Event.{Event}
 use Rattle.lists.specs.Lists.{alike, laid}
 use Rattle.debounce.specs.Picture.{all_up, padded, is_picture, is_scan}
@@ -12,6 +11,7 @@ use Rattle.debounce.specs.Step as filter
 use Rattle.debounce.specs.Events.{changes, written}
 use Rattle.debounce.specs.declared.Debouncer.{Debouncer}
 use Rattle.debounce.specs.declared.Handed.{Handed}
+use Rattle.debounce.specs.declared.Got.{Got}
 
 -- the number of switches
 abbrev pub switches : Debouncer → ℕ
@@ -50,13 +50,12 @@ events_verdict d scan room =
 abbrev pub beside : {A B : Type 0} → Said A → B → Said (A × B)
 beside s b = record { number = s.number; place = s.place; values = (s.values, b) }
 
--- what is said of each answer: its number, its place and its values. Of a refused one the picture is all up, the change no and the
--- count 0
+-- what is said of each answer: its number, its place and its values. A refused change is no, a refused count 0
 abbrev pub made_said : Handed ⊤ → Said Debouncer
 made_said m = let s = said tt m.answer in record { number = s.number; place = s.place; values = m.debouncer }
 
-abbrev pub got_said : Result (List ℕ) Fault → Said (List ℕ)
-got_said = said all_up
+abbrev pub got_said : Got → Said (List ℕ)
+got_said g = let s = said tt g.answer in record { number = s.number; place = s.place; values = g.picture }
 
 abbrev pub updated_said : Handed Bool → Said (Bool × Debouncer)
 updated_said u = beside (said false u.answer) u.debouncer

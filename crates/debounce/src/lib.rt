@@ -16,7 +16,7 @@ ghost use Rattle.debounce.specs.Calls.{pictures_of, with_pictures, made_said, go
 ghost use Rattle.debounce.specs.Calls.{new_reply, get_reply, update_reply, events_reply};
 ghost use Rattle.debounce.specs.Inside.{step_out};
 
-use picture::{are_alike, pad};
+use picture::{Scan, are_alike};
 use refusal::Fault;
 use std::mem;
 use verdicts::making;
@@ -50,6 +50,13 @@ pub type Updated = Handed<bool>;
 // How many events were written, three bytes each.
 pub type Answered = Handed<usize>;
 
+// An answer, and the accepted picture; where it is refused, one that is all up.
+#[derive(Clone, Copy, PartialEq, Eq)]
+pub struct Got {
+    pub answer: Result<(), Fault>,
+    pub picture: [u8; 128],
+}
+
 // What one scan leaves, and whether the accepted picture changed.
 #[derive(Clone, Copy)]
 pub(crate) struct Step {
@@ -57,7 +64,7 @@ pub(crate) struct Step {
     pub debouncer: Debouncer,
 }
 
-// A step changes the debouncer in place: a new one with `..self` in each case costs three times the instructions.
+// A step changes the debouncer in place: with a new one by `..self` a change that is taken costs 128 instructions more.
 impl Debouncer {
     // A scan that differs from the accepted picture: it becomes the candidate, or has stood for one scan more.
     #[tactic(auto, unfolding(crate::specs::Step::grown))]
@@ -113,9 +120,10 @@ impl Debouncer {
     pub fn new(rows: usize, columns: usize, nb_bounce: u16, start: &[u8]) -> Made
         ensures { made_said result ≡ new_reply rows columns nb_bounce start.now }
     {
-        match making(rows, columns, nb_bounce, start) {
+        let start = Scan::new(start);
+        match making(rows, columns, nb_bounce, &start) {
             Ok(()) => {
-                let places = pad(start);
+                let places = start.places;
                 Made {
                     answer: Ok(()),
                     debouncer: Debouncer {
@@ -143,11 +151,22 @@ impl Debouncer {
     }
 
     // The accepted picture.
-    pub fn get(self) -> Result<[u8; 128], Fault>
+    pub fn get(self) -> Got
         ensures { got_said result ≡ get_reply self }
     {
-        self.legal()?;
-        Ok(self.cur)
+        match self.legal() {
+            Ok(_) => {
+                let picture = self.cur;
+                Got {
+                    answer: Ok(()),
+                    picture,
+                }
+            }
+            Err(fault) => Got {
+                answer: Err(fault),
+                picture: [0; 128],
+            },
+        }
     }
 
     // Takes a scan, and answers whether the accepted picture changed.
@@ -155,9 +174,10 @@ impl Debouncer {
     pub fn update(self, scan: &[u8]) -> Updated
         ensures { updated_said result ≡ update_reply self scan.now }
     {
-        match self.taken(scan) {
+        let scan = Scan::new(scan);
+        match self.taken(&scan) {
             Ok(_) => {
-                let Step { changed, debouncer } = self.step(pad(scan));
+                let Step { changed, debouncer } = self.step(scan.places);
                 Updated {
                     answer: Ok(changed),
                     debouncer,
@@ -175,9 +195,10 @@ impl Debouncer {
     pub fn events(self, scan: &[u8], out: &mut [u8]) -> Answered
         ensures { handed result out.new ≡ events_reply self scan.now out.old }
     {
-        match self.taken_with_room(scan, out.len()) {
+        let scan = Scan::new(scan);
+        match self.taken_with_room(&scan, out.len()) {
             Ok(sizes) => {
-                let step = self.step(pad(scan));
+                let step = self.step(scan.places);
                 let Step { debouncer, .. } = step;
                 Answered {
                     answer: Ok(sizes.tell_step(step, out)),

@@ -1,25 +1,27 @@
 // Whether a call is refused: document 01, "Refusal numbers", 10 to 13.
 // Assumes nothing.
-ghost use Rattle.std.specs.Prelude.{◌≡◌, ◌*◌, ◌≤◌, IfOk, length};
+ghost use Rattle.std.specs.Prelude.{◌≡◌, ◌*◌, ◌≤◌, IfOk};
+ghost use Rattle.debounce.specs.Picture.{padded};
 ghost use Rattle.debounce.specs.Calls.{making_verdict, get_verdict, update_verdict, events_verdict};
 ghost use Rattle.debounce.specs.Inside.{verdict_of, is_kept, IsLegal};
 
 use super::Debouncer;
+use super::picture::Scan;
 use super::sizes::Sizes;
 use refusal::{Fault, Refusal, rule};
 
 // Takes three numbers, as `new` does by document 01: `Sizes` is made of them where they are good.
 #[tactic(auto, unfolding(refusal::specs::Verdict::rule, crate::specs::Calls::making_verdict))]
-pub(crate) fn making(rows: usize, columns: usize, nb_bounce: u16, start: &[u8]) -> Result<(), Fault>
-    ensures verdict { result ≡ making_verdict rows columns nb_bounce start.now }
-    ensures few { IfOk result (λ u. length start.now ≤ 128) }
+pub(crate) fn making(rows: usize, columns: usize, nb_bounce: u16, start: &Scan) -> Result<(), Fault>
+    ensures verdict { result ≡ making_verdict rows columns nb_bounce start.now.bytes.now }
+    ensures whole { IfOk result (λ u. start.now.places ≡ padded start.now.bytes.now) }
 {
     let sizes = Sizes::of(rows, columns, nb_bounce, Refusal::Bounce)?;
     rule(sizes.is_scan(start), Refusal::Scan, 0)
 }
 
-// The answers have the sizes and not the debouncer or the scan's places, which would be copied at each `?`: so `IsLegal` is a
-// clause. `length scan ≤ 128` is one too: a `Scan` would be a slice and its bound, which each call reads once: no plainer.
+// The answers have the sizes alone, since the caller has the debouncer and the scan: so what is known of these is a clause,
+// `IsLegal`, and that the scan's places hold all of it.
 impl Debouncer {
     // Whether since and the pictures of a debouncer of these sizes break no rule.
     fn is_kept(self, sizes: Sizes) -> bool
@@ -41,10 +43,10 @@ impl Debouncer {
 
     // The same, where a scan fits it.
     #[tactic(auto, unfolding(refusal::specs::Verdict::rule, crate::specs::Calls::get_verdict, crate::specs::Calls::update_verdict))]
-    pub(crate) fn taken(self, scan: &[u8]) -> Result<Sizes, Fault>
-        ensures verdict { verdict_of result ≡ update_verdict self scan.now }
+    pub(crate) fn taken(self, scan: &Scan) -> Result<Sizes, Fault>
+        ensures verdict { verdict_of result ≡ update_verdict self scan.now.bytes.now }
         ensures sizes { IfOk result (λ s. IsLegal self s) }
-        ensures few { IfOk result (λ s. length scan.now ≤ 128) }
+        ensures whole { IfOk result (λ s. scan.now.places ≡ padded scan.now.bytes.now) }
     {
         let sizes = self.legal()?;
         rule(sizes.is_scan(scan), Refusal::Scan, 0)?;
@@ -53,10 +55,10 @@ impl Debouncer {
 
     // The same, where a buffer has room for an event of each switch.
     #[tactic(auto, unfolding(refusal::specs::Verdict::rule, crate::specs::Calls::events_verdict, crate::specs::Calls::update_verdict))]
-    pub(crate) fn taken_with_room(self, scan: &[u8], room: usize) -> Result<Sizes, Fault>
-        ensures verdict { verdict_of result ≡ events_verdict self scan.now room }
+    pub(crate) fn taken_with_room(self, scan: &Scan, room: usize) -> Result<Sizes, Fault>
+        ensures verdict { verdict_of result ≡ events_verdict self scan.now.bytes.now room }
         ensures sizes { IfOk result (λ s. IsLegal self s) }
-        ensures few { IfOk result (λ s. length scan.now ≤ 128) }
+        ensures whole { IfOk result (λ s. scan.now.places ≡ padded scan.now.bytes.now) }
         ensures room { IfOk result (λ s. 3 * (s.rows * s.columns) ≤ room) }
     {
         let sizes = self.taken(scan)?;

@@ -60,10 +60,14 @@ fn update(word: &[u8], debouncer: &mut Debouncer) -> Option<Text> {
 
 // `picture`: the 128 places of the accepted picture, a digit a place.
 fn shown(debouncer: &Debouncer) -> Text {
-    match debouncer.get() {
-        Ok(places) => places.iter().fold(say::text(b"picture "), |text, place| {
-            text.put_number(usize::from(*place))
-        }),
+    let got = debouncer.get();
+    match got.answer {
+        Ok(()) => got
+            .picture
+            .iter()
+            .fold(say::text(b"picture "), |text, place| {
+                text.put_number(usize::from(*place))
+            }),
         Err(fault) => refused(fault),
     }
 }
