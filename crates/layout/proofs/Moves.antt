@@ -43,10 +43,10 @@ module _ (img : List ℕ) where
   unfolding noted_marks
   did_nothing end q = record { is = refl; notes = refl }
 
-  pub did_moves : (active : Active) (end : Progress) (q : List Queued) {move : Model → Model} → Moves img active end.active move
-      → Did img end.notes end q (still (move (model_of img active q)))
+  pub did_moves : (notes : Notes) (active : Active) (end : Progress) (q : List Queued) {move : Model → Model} → Moves img active end.active move → end.notes ≡ notes
+      → Did img notes end q (still (move (model_of img active q)))
   unfolding noted_marks
-  did_moves active end q m = record { is = m.is q; notes = refl }
+  did_moves notes active end q m e = record { is = m.is q; notes = e }
 
   -- an event is acted on, and that is noted first
   pub did_acted : (notes noting : Notes) (end : Progress) (q : List Queued) (e : Event) (done : Done) → noting ≡ note_acted notes e → Did img noting end q done → Did img notes end q (marked (Acted e) done)
@@ -152,7 +152,7 @@ module _ (img : List ℕ) (begun : Progress) (queue : Queue) (w : WaitingState) 
       → Steps img begun next queue (waited_one img w)
   did_waiting next en m h =
       let fewer = subst (λ (x : ℕ). Moves img begun.active next.active (with_waiting (waiting_of img (waits_at w.coord x w.number)))) ek m in
-      did_as img (subst (λ (n : Notes). Did img n next (list_in queue) (still (with_waiting (waiting_of img (waits_at w.coord (w.left - 1) w.number)) (model_of img begun.active (list_in queue))))) en (did_moves img begun.active next (list_in queue) fewer)) (sym (wait_on (table_of img) _ (w.left - 1) (omega arith)))
+      did_as img (did_moves img begun.notes begun.active next (list_in queue) fewer en) (sym (wait_on (table_of img) _ (w.left - 1) (omega arith)))
 
   -- what waits is gone once it is decided, so that how many ticks it had left is all the same
   pub did_up : (end : Progress) → k ≤ 0 → Steps img begun end queue (becomes img Hold w) → Steps img begun end queue (waited_one img w)

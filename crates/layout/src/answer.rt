@@ -24,9 +24,10 @@ pub struct Answered {
 }
 
 // The answer of a call that was not refused: the key codes in state order go to the start of the buffer.
-pub(crate) fn answer_of(end: Progress, line: Line, out: &mut [u8]) -> Answered
+#[inline(never)]
+pub(crate) fn answer_of(end: &Progress, line: &Line, out: &mut [u8]) -> Answered
     requires { 64 ≤ length out.old }
-    ensures { Handed end line.queue result out.old out.new }
+    ensures { Handed end.now line.now.queue result out.old out.new }
 {
     let mut codes = 0;
     for state in &end.active.states[..end.active.len] {

@@ -1,10 +1,10 @@
--- `layout::progress::Progress::after_effect` meets its contract. Assumes nothing.
+-- `layout::progress::Progress::add_effect` meets its contract. Assumes nothing.
 use mathlib.Core.List.{◌++◌, map}
 use mathlib.Core.Path.{◌≡◌}
 use lib.ListN.{take}
 use Rattle.layout.specs.Packed.{pad, no_state}
 use Rattle.layout.specs.Effects.{state_of}
-use Rattle.layout.proofs.progress.Progress.after_effect.Given as goal
+use Rattle.layout.proofs.progress.Progress.add_effect.Given as goal
 
 abbrev pub invariant-loop-k : goal.invariant-loop-k
 invariant-loop-k l =

@@ -1,10 +1,10 @@
--- `layout::progress::Progress::after_effect` meets its contract. Assumes nothing.
+-- `layout::progress::Progress::add_effect` meets its contract. Assumes nothing.
 use mathlib.Core.Path.{◌≡◌}
 use native.Mathlib.Omega.{arith}
 use lib.ListN.{length, take}
 use Rattle.layout.proofs.Effects.{grown_none, grown_more, grown_tidy, grown}
 use Rattle.layout.proofs.Parts.{held_length}
-use Rattle.layout.proofs.progress.Progress.after_effect.Goals as goal
+use Rattle.layout.proofs.progress.Progress.add_effect.Goals as goal
 
 pub loop-k-init : goal.loop-k-init
 loop-k-init c = grown_none c.args.self.now.active c.args.effect.now.held c.args.self.now.tidy c.requires
@@ -19,8 +19,8 @@ loop-k-preserved c =
     (take held c.args.self.now.active.states) c.loop-k.states c.args.effect.now.holds held c.loop-k.k first
     (omega arith) (omega arith) c.loop-k.invariant)
 
-pub invariant_of-result : goal.invariant_of-result
-invariant_of-result c =
+pub invariant_of-self : goal.invariant_of-self
+invariant_of-self c =
     let all : c.loop-k.k ≡ c.args.effect.now.added = omega arith in
     record {
       tidy = grown_tidy c.args.self.now.active c.args.effect.now c.args.coord c.loop-k.states c.args.self.now.tidy c.requires
