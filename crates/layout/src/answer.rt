@@ -23,8 +23,9 @@ pub struct Answered {
     pub layout: Layout,
 }
 
-// The answer of a call that was not refused: the key codes in state order go to the start of the buffer.
-#[inline(never)]
+// The answer of a call that was not refused: the key codes in state order go to the start of the buffer. A call of its own
+// would write the whole layout once more.
+#[inline(always)]
 pub(crate) fn answer_of(end: &Progress, line: &Line, out: &mut [u8]) -> Answered
     requires { 64 ≤ length out.old }
     ensures { Handed end.now line.now.queue result out.old out.new }
