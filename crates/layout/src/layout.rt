@@ -79,16 +79,8 @@ impl Layout {
             active: self.active,
             notes: no_notes(),
         };
-        let line = Line { queue: self.queue };
-        if self.queue.queued < Layout::QUEUE {
-            let line = line.append(event);
-            table.tap_released(&mut progress, &line, event);
-            return answer_of(&progress, &line, out);
-        }
-        let oldest = self.queue.stacked[0];
-        let line = line.shift().append(event);
-        table.overflow(&mut progress, &line, oldest);
-        table.tap_released(&mut progress, &line, event);
+        let mut line = Line { queue: self.queue };
+        table.event(&mut progress, &mut line, event);
         answer_of(&progress, &line, out)
     }
 
@@ -109,18 +101,9 @@ impl Layout {
             active: self.active,
             notes: no_notes(),
         };
-        let line = Line { queue: self.queue }.age();
-        if let Some(w) = self.active.waiting {
-            table.tick_waiting(&mut progress, &line, w);
-            return answer_of(&progress, &line, out);
-        }
-        if line.queue.queued == 0 {
-            return answer_of(&progress, &line, out);
-        }
-        let oldest = line.queue.stacked[0];
-        let rest = line.shift();
-        table.unstack(&mut progress, &rest, oldest);
-        answer_of(&progress, &rest, out)
+        let mut line = Line { queue: self.queue };
+        table.tick(&mut progress, &mut line);
+        answer_of(&progress, &line, out)
     }
 
     // The key codes of the layout as it stands.

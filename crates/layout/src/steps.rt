@@ -1,15 +1,16 @@
-// The steps of a layout that change its states: acting on an event, what waits becoming hold or tap. Document 01, Layout.
+// The steps of a layout: an event and a tick, and of these acting on an event, and what waits becoming hold or tap. Each
+// changes how far the call has come where it stands, since a copy costs more than the step. Document 01, Layout.
 // Assumes nothing.
 ghost use Rattle.std.specs.Prelude.{◌≡◌};
 ghost use Rattle.image.specs.Table.{table_of};
-ghost use Rattle.layout.specs.Steps.{released as released_of, overflow as overflow_of};
-ghost use Rattle.layout.specs.Packed.{queued_of};
-ghost use Rattle.layout.specs.Inside.{PressedTo, Steps, unstacked, becomes as becomes_of, waited_one};
+ghost use Rattle.layout.specs.Steps.{released as released_of, event as event_of, tick as tick_of};
+ghost use Rattle.layout.specs.Inside.{PressedTo, Steps, Goes, unstacked, overflowed, becomes as becomes_of, waited_one};
 
 use super::accepted::Accepted;
 use super::action::Setting;
 use super::active::{WaitingState, current_layer, release, with_waiting};
 use super::effect::Effect;
+use super::layout::Layout;
 use super::line::Line;
 use super::notes::{Way, note_acted};
 use super::progress::Progress;
@@ -72,7 +73,7 @@ impl Accepted<'_> {
 
     // The oldest event left a full queue: what waits becomes hold, then that event is acted on.
     pub(crate) fn overflow(&self, progress: &mut Progress, line: &Line, oldest: Stacked)
-        ensures { Steps self.now.image.now progress.old progress.new line.now.queue (overflow_of (table_of self.now.image.now) (queued_of oldest)) }
+        ensures { Steps self.now.image.now progress.old progress.new line.now.queue (overflowed self.now.image.now oldest) }
     {
         let Some(w) = progress.active.waiting else {
             self.unstack(progress, line, oldest);
@@ -104,5 +105,37 @@ impl Accepted<'_> {
             return;
         }
         self.becomes(progress, line, w, Way::Hold);
+    }
+    // A new event is queued, and in a full queue the oldest leaves for it.
+    pub(crate) fn event(&self, progress: &mut Progress, line: &mut Line, event: Event)
+        ensures { Goes self.now.image.now progress.old line.old progress.new line.new (event_of (table_of self.now.image.now) event) }
+    {
+        if line.queue.queued < Layout::QUEUE {
+            line.append(event);
+            self.tap_released(progress, line, event);
+            return;
+        }
+        let oldest = line.queue.stacked[0];
+        line.shift();
+        line.append(event);
+        self.overflow(progress, line, oldest);
+        self.tap_released(progress, line, event);
+    }
+
+    // A tick: what is queued is older, and then what waits has a tick less, or else the oldest event is acted on.
+    pub(crate) fn tick(&self, progress: &mut Progress, line: &mut Line)
+        ensures { Goes self.now.image.now progress.old line.old progress.new line.new (tick_of (table_of self.now.image.now)) }
+    {
+        line.age();
+        if let Some(w) = progress.active.waiting {
+            self.tick_waiting(progress, line, w);
+            return;
+        }
+        if line.queue.queued == 0 {
+            return;
+        }
+        let oldest = line.queue.stacked[0];
+        line.shift();
+        self.unstack(progress, line, oldest);
     }
 }

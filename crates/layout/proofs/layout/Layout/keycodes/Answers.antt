@@ -27,5 +27,5 @@ returns c =
     let r = c.in_ok-judge.ensures.ready.0 in
     let line : Line = record { queue = lay.queue; lined = r.lined } in
     let whole = call_finished img lay begun line still c.args.out.now _ c.answer_of.result c.judge.ensures.is c.in_ok-judge.was
-    (finished img lay begun begun line q still refl c.no_notes.ensures refl (did_nothing img begun q)) c.answer_of.ensures in
+    (finished img lay begun begun line line still refl c.no_notes.ensures refl (did_nothing img begun q)) c.answer_of.ensures in
     ap (λ (x : Reply). record { told = x.told; layout = lay; buffer = x.buffer }) whole
