@@ -19,6 +19,7 @@ use Rattle.layout.specs.declared.queue.Stacked.{Stacked}
 use Rattle.layout.specs.declared.queue.Queue.{Queue}
 use Rattle.layout.specs.declared.progress.Progress.{Progress}
 use Rattle.layout.specs.declared.line.Line.{Line}
+use Rattle.layout.specs.declared.answer.Answer.{Answer}
 use Rattle.layout.specs.declared.answer.Answered.{Answered}
 
 -- the active part comes from another, whatever is queued
@@ -60,7 +61,12 @@ abbrev pub verdict_of : {A : Type 0} → Result A Fault → Verdict
 verdict_of (Ok a) = fine
 verdict_of (Err fault) = Err fault
 
--- the answer of a call that was not refused, and its buffer
+-- the answer of a call that was not refused, and its buffer; and with the layout that it hands back
+abbrev pub Answers : Progress → Answer → List ℕ → List ℕ → Type 0
+Answers end a buffer after =
+    let held = codes (states_in end.active) in
+    (a ≡ record { codes = length held; notes = end.notes }) × (after ≡ laid held buffer)
+
 abbrev pub Handed : Progress → Queue → Answered → List ℕ → List ℕ → Type 0
 Handed end queue r buffer after =
     let held = codes (states_in end.active) in

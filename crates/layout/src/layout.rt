@@ -81,7 +81,13 @@ impl Layout {
         };
         let mut line = Line { queue: self.queue };
         table.event(&mut progress, &mut line, event);
-        answer_of(&progress, &line, out)
+        Answered {
+            answer: Ok(answer_of(&progress, out)),
+            layout: Layout {
+                active: progress.active,
+                queue: line.queue,
+            },
+        }
     }
 
     // One tick of the clock, a millisecond on the panel.
@@ -103,7 +109,13 @@ impl Layout {
         };
         let mut line = Line { queue: self.queue };
         table.tick(&mut progress, &mut line);
-        answer_of(&progress, &line, out)
+        Answered {
+            answer: Ok(answer_of(&progress, out)),
+            layout: Layout {
+                active: progress.active,
+                queue: line.queue,
+            },
+        }
     }
 
     // The key codes of the layout as it stands.
@@ -115,7 +127,6 @@ impl Layout {
             active: self.active,
             notes: no_notes(),
         };
-        let line = Line { queue: self.queue };
-        answer_of(&progress, &line, out).answer
+        Ok(answer_of(&progress, out))
     }
 }

@@ -1,5 +1,6 @@
-// The steps of a layout: an event and a tick, and of these acting on an event, and what waits becoming hold or tap. Each
-// changes how far the call has come where it stands, since a copy costs more than the step. Document 01, Layout.
+// The steps of a layout: an event and a tick, and what these come to, acting on a queued event and what waits becoming hold or
+// tap. Each changes in place how far the call has come, since a copy of its states costs more than most steps. Document 01,
+// Layout.
 // Assumes nothing.
 ghost use Rattle.std.specs.Prelude.{◌≡◌};
 ghost use Rattle.image.specs.Table.{table_of};
@@ -106,6 +107,7 @@ impl Accepted<'_> {
         }
         self.becomes(progress, line, w, Way::Hold);
     }
+
     // A new event is queued, and in a full queue the oldest leaves for it.
     pub(crate) fn event(&self, progress: &mut Progress, line: &mut Line, event: Event)
         ensures { Goes self.now.image.now progress.old line.old progress.new line.new (event_of (table_of self.now.image.now) event) }

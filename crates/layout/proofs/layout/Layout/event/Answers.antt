@@ -5,7 +5,7 @@ use Rattle.layout.specs.Steps.{event}
 use Rattle.layout.specs.declared.progress.Progress.{Progress}
 use Rattle.layout.specs.declared.line.Line.{Line}
 use Rattle.layout.proofs.Moves.{finished}
-use Rattle.layout.proofs.Calls.{call_refused, call_finished}
+use Rattle.layout.proofs.Calls.{call_refused, handing, call_finished}
 use Rattle.layout.proofs.layout.Layout.event.Goals as goal
 
 pub returns-in-Err : goal.returns-in-Err
@@ -20,6 +20,6 @@ returns c =
     let r = c.in-Ok.ensures.ready.0 in
     let begun : Progress = record { active = lay.active; notes = c.no_notes.result; tidy = r.tidy } in
     let line : Line = record { queue = lay.queue; lined = r.lined } in
-    call_finished img lay c.event.new.progress c.event.new.line (event (table_of img) c.args.event) c.args.out.now _ c.answer_of.result c.judge.ensures.is c.in-Ok.is
+    call_finished img lay c.event.new.progress c.event.new.line (event (table_of img) c.args.event) c.args.out.now _ _ c.judge.ensures.is c.in-Ok.is
     (finished img lay begun c.event.new.progress line c.event.new.line (event (table_of img) c.args.event) refl c.no_notes.ensures refl (rw c.in-Ok.ensures.of at c.event.ensures))
-    c.answer_of.ensures
+    (handing c.event.new.progress c.event.new.line.queue _ c.args.out.now _ c.answer_of.ensures)

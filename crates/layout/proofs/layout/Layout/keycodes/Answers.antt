@@ -8,7 +8,7 @@ use Rattle.layout.specs.Calls.{Reply}
 use Rattle.layout.specs.declared.line.Line.{Line}
 use Rattle.layout.specs.declared.progress.Progress.{Progress}
 use Rattle.layout.proofs.Moves.{did_nothing, finished}
-use Rattle.layout.proofs.Calls.{call_refused, call_finished}
+use Rattle.layout.proofs.Calls.{call_refused, handing, call_finished}
 use Rattle.layout.proofs.layout.Layout.keycodes.Goals as goal
 
 pub returns-in_err-judge : goal.returns-in_err-judge
@@ -26,6 +26,6 @@ returns c =
     let q = list_in lay.queue in
     let r = c.in_ok-judge.ensures.ready.0 in
     let line : Line = record { queue = lay.queue; lined = r.lined } in
-    let whole = call_finished img lay begun line still c.args.out.now _ c.answer_of.result c.judge.ensures.is c.in_ok-judge.was
-    (finished img lay begun begun line line still refl c.no_notes.ensures refl (did_nothing img begun q)) c.answer_of.ensures in
+    let whole = call_finished img lay begun line still c.args.out.now _ _ c.judge.ensures.is c.in_ok-judge.was
+    (finished img lay begun begun line line still refl c.no_notes.ensures refl (did_nothing img begun q)) (handing begun lay.queue _ c.args.out.now _ c.answer_of.ensures) in
     ap (λ (x : Reply). record { told = x.told; layout = lay; buffer = x.buffer }) whole

@@ -5,7 +5,7 @@ use Rattle.layout.specs.Steps.{tick}
 use Rattle.layout.specs.declared.progress.Progress.{Progress}
 use Rattle.layout.specs.declared.line.Line.{Line}
 use Rattle.layout.proofs.Moves.{finished}
-use Rattle.layout.proofs.Calls.{call_refused, call_finished}
+use Rattle.layout.proofs.Calls.{call_refused, handing, call_finished}
 use Rattle.layout.proofs.layout.Layout.tick.Goals as goal
 
 pub returns-in-Err : goal.returns-in-Err
@@ -20,6 +20,6 @@ returns c =
     let r = c.in-Ok.ensures.ready.0 in
     let begun : Progress = record { active = lay.active; notes = c.no_notes.result; tidy = r.tidy } in
     let line : Line = record { queue = lay.queue; lined = r.lined } in
-    call_finished img lay c.tick.new.progress c.tick.new.line (tick (table_of img)) c.args.out.now _ c.answer_of.result c.judge.ensures.is c.in-Ok.is
+    call_finished img lay c.tick.new.progress c.tick.new.line (tick (table_of img)) c.args.out.now _ _ c.judge.ensures.is c.in-Ok.is
     (finished img lay begun c.tick.new.progress line c.tick.new.line (tick (table_of img)) refl c.no_notes.ensures refl (rw c.in-Ok.ensures.of at c.tick.ensures))
-    c.answer_of.ensures
+    (handing c.tick.new.progress c.tick.new.line.queue _ c.args.out.now _ c.answer_of.ensures)
