@@ -5,7 +5,8 @@ ghost use Rattle.layout.specs.Order.{Lined};
 use super::queue::{Queue, Stacked, is_release};
 use event::{Coord, Event};
 
-// Queued events in order, which `judge` has asked of those that a call begins with.
+// Queued events in order, which `judge` has asked of those that a call begins with. A method that lends the array to change
+// it lends a copy: it is out of order meanwhile.
 #[derive(Drop)]
 pub(crate) struct Line {
     pub queue: Queue,

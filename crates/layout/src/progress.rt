@@ -24,13 +24,11 @@ impl Progress {
         requires { effect.now.held ≡ self.old.active.len }
         ensures { Grown self.old.active effect.now coord self.new }
     {
-        let mut states = self.active.states;
-        for k in 0..effect.added {
-            states[effect.held + k] = effect.holds[k].at(coord);
+        for holds in &effect.holds[..effect.added] {
+            self.active.states[self.active.len] = holds.at(coord);
+            self.active.len += 1;
         }
         self.active.default_layer = effect.default_layer;
-        self.active.states = states;
-        self.active.len = effect.held + effect.added;
         self.active.waiting = effect.waiting;
         self.notes = effect.notes;
     }

@@ -108,7 +108,8 @@ impl Accepted<'_> {
         self.becomes(progress, line, w, Way::Hold);
     }
 
-    // A new event is queued, and in a full queue the oldest leaves for it.
+    // A new event is queued. In a full queue the oldest makes room for it, and is acted on first; then the new one may turn
+    // what waits into a tap.
     pub(crate) fn event(&self, progress: &mut Progress, line: &mut Line, event: Event)
         ensures { Goes self.now.image.now progress.old line.old progress.new line.new (event_of (table_of self.now.image.now) event) }
     {
