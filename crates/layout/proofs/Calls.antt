@@ -22,7 +22,7 @@ use Rattle.layout.specs.State.{state_good}
 use Rattle.layout.specs.Notes.{no_notes, noted}
 use Rattle.layout.specs.Calls.{verdict_in, judged_of, answer_of, layout_after, buffered, handed, replied}
 use Rattle.layout.specs.Order.{Tidy, Lined, Ready}
-use Rattle.layout.specs.Inside.{Handed, verdict_of}
+use Rattle.layout.specs.Inside.{Answers, Handed, verdict_of}
 use Rattle.layout.specs.declared.active.State.{State}
 use Rattle.layout.specs.declared.active.Active.{Active}
 use Rattle.layout.specs.declared.active.WaitingState.{WaitingState}
@@ -31,6 +31,7 @@ use Rattle.layout.specs.declared.queue.Queue.{Queue}
 use Rattle.layout.specs.declared.progress.Progress.{Progress}
 use Rattle.layout.specs.declared.line.Line.{Line}
 use Rattle.layout.specs.declared.layout.Layout.{Layout}
+use Rattle.layout.specs.declared.answer.Answer.{Answer}
 use Rattle.layout.specs.declared.answer.Answered.{Answered}
 use Rattle.layout.proofs.Moves.{Finished}
 use Rattle.layout.proofs.Parts.{held_length, list_length}
@@ -91,6 +92,11 @@ pub call_refused : (img : List ℕ) (lay : Layout) (buffer : List ℕ) (step : M
     → handed (record { answer = Err fault; layout = lay }) buffer ≡ replied img step lay buffer
 unfolding replied answer_of layout_after buffered
 call_refused img lay buffer step j e = rw (judged_err j e)
+
+-- the answer with the layout that stands beside it
+pub handing : (end : Progress) (queue : Queue) (a : Answer) (buffer after : List ℕ) → Answers end a buffer after
+    → Handed end queue (record { answer = Ok a; layout = record { active = end.active; queue = queue } }) buffer after
+handing end queue a buffer after h = (ap (λ (x : Answer). record { answer = Ok x; layout = record { active = end.active; queue = queue } }) h.0, h.1)
 
 -- a call that was not
 pub call_finished : (img : List ℕ) (lay : Layout) (end : Progress) (line : Line) (step : Model → Done) (buffer after : List ℕ) (a : Answered) {A : Type 0} {judged : Result A Fault} {t : A}

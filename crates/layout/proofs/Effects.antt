@@ -47,29 +47,18 @@ grown_more c l arr a h k e lt in-a ea =
     let more : l ++ map (state_of c) (take (k + 1) a) ≡ put ++ (state_of c (get_or a k (Code 0)) ∷ []) = rw (add-one, take-suc a k (Code 0) in-a, map-append, append_assoc) in
     rw more (held_more 64 no_state put (state_of c (get_or a k (Code 0))) arr (h + k) lt count ea).1
 
--- the states after the loop
-abbrev pub grown_active : Effect → List State → Active
-grown_active effect arr = record { default_layer = effect.default_layer; states = arr; len = effect.held + effect.added; waiting = effect.waiting }
+-- the first h states, and k that were put behind them
+module _ (active now : Active) (c : Coord) (a : List Holds) (h k : ℕ) (t : Tidy active) (eh : h ≡ active.len) (few : h + k ≤ 64) (long : k ≤ length a)
+    (count : now.len ≡ h + k) (is : now.states ≡ pad 64 no_state (take h active.states ++ map (state_of c) (take k a))) where
+  pub grown : states_in now ≡ take h active.states ++ map (state_of c) (take k a)
+  grown =
+      let put = take h active.states ++ map (state_of c) (take k a) in
+      let first : length (take h active.states) ≡ h = rw eh (held_length active t) in
+      let all : h + k ≡ length put = sym (rw (length-append, length-map, first, length-take-le k a long)) in
+      rw (count, all, is) (take_pad 64 no_state put)
 
-grown_is : (active : Active) (effect : Effect) (c : Coord) (arr : List State) → Tidy active → effect.held ≡ active.len
-    → arr ≡ pad 64 no_state (take effect.held active.states ++ map (state_of c) (take effect.added effect.holds))
-    → take (effect.held + effect.added) arr ≡ take effect.held active.states ++ map (state_of c) (take effect.added effect.holds)
-grown_is active effect c arr t e ea =
-    let r = effect.roomy in
-    let put = take effect.held active.states ++ map (state_of c) (take effect.added effect.holds) in
-    let first : length (take effect.held active.states) ≡ effect.held = rw e (held_length active t) in
-    let count : effect.held + effect.added ≡ length put = sym (rw (length-append, length-map, first, length-take-le effect.added effect.holds (omega (arith, r.few, r.long)))) in
-    rw (count, ea) (take_pad 64 no_state put)
-
-pub grown_tidy : (active : Active) (effect : Effect) (c : Coord) (arr : List State) → Tidy active → effect.held ≡ active.len
-    → arr ≡ pad 64 no_state (take effect.held active.states ++ map (state_of c) (take effect.added effect.holds))
-    → Tidy (grown_active effect arr)
-grown_tidy active effect c arr t e ea = record { few = effect.roomy.few; clean = ap (pad 64 no_state) (grown_is active effect c arr t e ea) ∙ sym ea }
-
-pub grown : (active : Active) (effect : Effect) (c : Coord) (arr : List State) (tidy : Tidy (grown_active effect arr)) → Tidy active → effect.held ≡ active.len
-    → arr ≡ pad 64 no_state (take effect.held active.states ++ map (state_of c) (take effect.added effect.holds))
-    → Grown active effect c (record { active = grown_active effect arr; notes = effect.notes; tidy = tidy })
-grown active effect c arr tidy t e ea = record { base = refl; states = rw (grown_is active effect c arr t e ea, e); waiting = refl; notes = refl }
+  pub grown_tidy : Tidy now
+  grown_tidy = record { few = rw count few; clean = ap (pad 64 no_state) grown ∙ sym is }
 
 -- a state more where there is room, and none where there is not
 push_yes : (s : State) (l : Model) → length l.states < 64 → push s l ≡ still (with_states (l.states ++ (s ∷ [])) l)

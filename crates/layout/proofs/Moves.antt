@@ -1,7 +1,8 @@
 -- Laws of the steps of a layout, by cases, and of the stages of a call that come by them. Assumes nothing.
 --     did_nothing, did-moves, did-acted     a stage with one part changed, and the step that it is
 --     did-as, did_then                      the same step by another name; one step after another
---     Finished, finished, tick_goes, event-goes     a whole call
+--     put, tick_goes, event-goes     a step that changes the queue too
+--     Finished, finished             a whole call
 use mathlib.Core.Path.{◌≡◌, refl, sym, ap, subst, ◌∙◌}
 use mathlib.Core.Bool.{true, false}
 use mathlib.Core.List.{List, [], ◌∷◌}
@@ -18,7 +19,7 @@ use Rattle.layout.specs.Actions.{find, decided}
 use Rattle.layout.specs.Steps.{act, into, into_hold, into_tap, releases, released, overflow, appended, entered, event, older, tick_wait, ticked, tick}
 use Rattle.layout.specs.Packed.{list_in, waiting_of, waits_at, model_of, unpack}
 use Rattle.layout.specs.Notes.{no_notes, note_acted, noted, noted_marks}
-use Rattle.layout.specs.Inside.{Moves, Did, Steps, becomes, waited_one}
+use Rattle.layout.specs.Inside.{Moves, Did, Steps, Goes, becomes, waited_one}
 use Rattle.layout.specs.Effects.{Begun, Settled, Grown}
 use Rattle.layout.specs.declared.active.Active.{Active}
 use Rattle.layout.specs.declared.active.WaitingState.{WaitingState}
@@ -43,10 +44,10 @@ module _ (img : List ℕ) where
   unfolding noted_marks
   did_nothing end q = record { is = refl; notes = refl }
 
-  pub did_moves : (active : Active) (end : Progress) (q : List Queued) {move : Model → Model} → Moves img active end.active move
-      → Did img end.notes end q (still (move (model_of img active q)))
+  pub did_moves : (notes : Notes) (active : Active) (end : Progress) (q : List Queued) {move : Model → Model} → Moves img active end.active move → end.notes ≡ notes
+      → Did img notes end q (still (move (model_of img active q)))
   unfolding noted_marks
-  did_moves active end q m = record { is = m.is q; notes = refl }
+  did_moves notes active end q m e = record { is = m.is q; notes = e }
 
   -- an event is acted on, and that is noted first
   pub did_acted : (notes noting : Notes) (end : Progress) (q : List Queued) (e : Event) (done : Done) → noting ≡ note_acted notes e → Did img noting end q done → Did img notes end q (marked (Acted e) done)
@@ -64,14 +65,15 @@ module _ (img : List ℕ) where
         notes = r.notes ∙ ap (λ (n : Notes). noted n (g x.layout)) d.notes ∙ sym (noted_after notes x (g x.layout));
       }
 
-  -- a call that began with no notes, and a queue that holds the list l
-  pub finished : (lay : Layout) (begun end : Progress) (line : Line) (l : List Queued) (f : Model → Done) → begun.active ≡ lay.active → begun.notes ≡ no_notes → list_in line.queue ≡ l
-      → Steps img begun end line.queue f → Finished img end line (f (with_queue l (unpack img lay)))
-  finished lay begun end line l f ea en e d =
-      let q = list_in line.queue in
-      let first : Did img no_notes end q (f (model_of img lay.active q)) = subst (λ (a : Active). Did img no_notes end q (f (model_of img a q))) ea
-      (subst (λ (n : Notes). Did img n end q (f (model_of img begun.active q))) en d) in
-      subst (λ (x : List Queued). Did img no_notes end q (f (model_of img lay.active x))) e first
+  -- a step of a call whose queue was put in before, and holds the list l
+  pub put : (begun end : Progress) (line : Line) (l : List Queued) (f : Model → Done) → list_in line.queue ≡ l
+      → Steps img begun end line.queue f → Did img begun.notes end (list_in line.queue) (f (model_of img begun.active l))
+  put begun end line l f e d = subst (λ (x : List Queued). Did img begun.notes end (list_in line.queue) (f (model_of img begun.active x))) e d
+
+  -- a call that began with no notes
+  pub finished : (lay : Layout) (begun end : Progress) (first last : Line) (f : Model → Done) → begun.active ≡ lay.active → begun.notes ≡ no_notes → first.queue ≡ lay.queue
+      → Goes img begun first end last f → Finished img end last (f (unpack img lay))
+  finished lay begun end first last f ea en e d = rw (← ea, ← en, ← e) d
 
 -- an event entered, where there is room and where there is not
 module _ (T : Table) (e : Event) where
@@ -152,26 +154,26 @@ module _ (img : List ℕ) (begun : Progress) (queue : Queue) (w : WaitingState) 
       → Steps img begun next queue (waited_one img w)
   did_waiting next en m h =
       let fewer = subst (λ (x : ℕ). Moves img begun.active next.active (with_waiting (waiting_of img (waits_at w.coord x w.number)))) ek m in
-      did_as img (subst (λ (n : Notes). Did img n next (list_in queue) (still (with_waiting (waiting_of img (waits_at w.coord (w.left - 1) w.number)) (model_of img begun.active (list_in queue))))) en (did_moves img begun.active next (list_in queue) fewer)) (sym (wait_on (table_of img) _ (w.left - 1) (omega arith)))
+      did_as img (did_moves img begun.notes begun.active next (list_in queue) fewer en) (sym (wait_on (table_of img) _ (w.left - 1) (omega arith)))
 
   -- what waits is gone once it is decided, so that how many ticks it had left is all the same
   pub did_up : (end : Progress) → k ≤ 0 → Steps img begun end queue (becomes img Hold w) → Steps img begun end queue (waited_one img w)
   unfolding into decided
   did_up end h d = did_as img d (sym (wait_up (table_of img) _ (w.left - 1) (omega arith)))
 
--- a tick of a whole layout, where something waits
-pub tick_goes : (img : List ℕ) (lay : Layout) (begun : Progress) (w : WaitingState) (line : Line) (end : Progress) → begun.active ≡ lay.active → begun.notes ≡ no_notes → lay.active.waiting ≡ Some w → list_in line.queue ≡ older (list_in lay.queue)
-    → Steps img begun end line.queue (waited_one img w) → Finished img end line (tick (table_of img) (unpack img lay))
-tick_goes img lay begun w line end ea en e eq d =
-    did_as img (finished img lay begun end line (older (list_in lay.queue)) (waited_one img w) ea en eq d)
-    (sym (tick_on (table_of img) (unpack img lay) w.coord w.left w.number _ _ (ap (waiting_of img) e)))
+-- a tick, where something waits
+pub tick_goes : (img : List ℕ) (begun : Progress) (w : WaitingState) (first last : Line) (end : Progress) → begun.active.waiting ≡ Some w → list_in last.queue ≡ older (list_in first.queue)
+    → Steps img begun end last.queue (waited_one img w) → Goes img begun first end last (tick (table_of img))
+tick_goes img begun w first last end e eq d =
+    did_as img (put img begun end last (older (list_in first.queue)) (waited_one img w) eq d)
+    (sym (tick_on (table_of img) (model_of img begun.active (list_in first.queue)) w.coord w.left w.number _ _ (ap (waiting_of img) e)))
 
--- an event of a whole layout: it is entered by a step, and then what waits for its release becomes tap
-pub event_goes : (img : List ℕ) (lay : Layout) (begun : Progress) (e : Event) (line : Line) (end : Progress) (l : List Queued) (enter : Model → Done) → begun.active ≡ lay.active → begun.notes ≡ no_notes → list_in line.queue ≡ l
-    → entered (table_of img) e (list_in lay.queue) (unpack img lay) ≡ enter (with_queue l (unpack img lay))
-    → Steps img begun end line.queue (λ (m : Model). after (enter m) (released (table_of img) e (enter m).layout))
-    → Finished img end line (event (table_of img) e (unpack img lay))
+-- an event: it is entered by a step, and then what waits for its release becomes tap
+pub event_goes : (img : List ℕ) (begun : Progress) (e : Event) (first last : Line) (end : Progress) (l : List Queued) (enter : Model → Done) → list_in last.queue ≡ l
+    → let m = model_of img begun.active (list_in first.queue) in entered (table_of img) e (list_in first.queue) m ≡ enter (with_queue l m)
+    → Steps img begun end last.queue (λ (m : Model). after (enter m) (released (table_of img) e (enter m).layout))
+    → Goes img begun first end last (event (table_of img) e)
 unfolding event
-event_goes img lay begun e line end l enter ea en el eq d =
-    did_as img (finished img lay begun end line l (λ (m : Model). after (enter m) (released (table_of img) e (enter m).layout)) ea en el d)
+event_goes img begun e first last end l enter el eq d =
+    did_as img (put img begun end last l (λ (m : Model). after (enter m) (released (table_of img) e (enter m).layout)) el d)
     (sym (ap (λ (r : Done). after r (released (table_of img) e r.layout)) eq))

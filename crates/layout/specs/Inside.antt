@@ -7,7 +7,7 @@ use Rattle.refusal.specs.declared.Fault.{Fault}
 use Rattle.event.specs.declared.Coord.{Coord}
 use Rattle.image.specs.Table.{table_of, tree_in}
 use Rattle.layout.specs.Model.{Queued, Model, Done, age_of, with_waiting}
-use Rattle.layout.specs.Steps.{codes, pressed, act, into, tick_wait}
+use Rattle.layout.specs.Steps.{codes, pressed, act, overflow, into, tick_wait}
 use Rattle.layout.specs.Packed.{states_in, queued_of, list_in, waiting_of, waits_at, model_of}
 use Rattle.layout.specs.Order.{Tidy}
 use Rattle.layout.specs.Notes.{noted}
@@ -18,6 +18,8 @@ use Rattle.layout.specs.declared.notes.Way.{Way}
 use Rattle.layout.specs.declared.queue.Stacked.{Stacked}
 use Rattle.layout.specs.declared.queue.Queue.{Queue}
 use Rattle.layout.specs.declared.progress.Progress.{Progress}
+use Rattle.layout.specs.declared.line.Line.{Line}
+use Rattle.layout.specs.declared.answer.Answer.{Answer}
 use Rattle.layout.specs.declared.answer.Answered.{Answered}
 
 -- the active part comes from another, whatever is queued
@@ -33,13 +35,20 @@ pub record Did (img : List ℕ) (before : Notes) (end : Progress) (q : List Queu
 abbrev pub Steps : List ℕ → Progress → Progress → Queue → (Model → Done) → Type 0
 Steps img begun end queue step = Did img begun.notes end (list_in queue) (step (model_of img begun.active (list_in queue)))
 
+-- the same of a step that changes the queue too
+abbrev pub Goes : List ℕ → Progress → Line → Progress → Line → (Model → Done) → Type 0
+Goes img begun first end last step = Did img begun.notes end (list_in last.queue) (step (model_of img begun.active (list_in first.queue)))
+
 -- the record that a press runs
 abbrev pub PressedTo : List ℕ → Active → Coord → Option ℕ → Type 0
 PressedTo img active c cell = (q : List Queued) → tree_in img cell ≡ pressed (table_of img) c (model_of img active q)
 
--- a queued event is acted on, with its age; what waits becomes tap or hold; and a tick of it
+-- a queued event is acted on, with its age, also where it left a full queue; what waits becomes tap or hold; and a tick of it
 abbrev pub unstacked : List ℕ → Stacked → Model → Done
 unstacked img s l = act (table_of img) s.event (age_of (queued_of s)) l
+
+abbrev pub overflowed : List ℕ → Stacked → Model → Done
+overflowed img s l = overflow (table_of img) (queued_of s) l
 
 abbrev pub becomes : List ℕ → Way → WaitingState → Model → Done
 becomes img way w l = into way (table_of img) (waiting_of img (Some w)) l
@@ -52,7 +61,12 @@ abbrev pub verdict_of : {A : Type 0} → Result A Fault → Verdict
 verdict_of (Ok a) = fine
 verdict_of (Err fault) = Err fault
 
--- the answer of a call that was not refused, and its buffer
+-- the answer of a call that was not refused, and its buffer; and with the layout that it hands back
+abbrev pub Answers : Progress → Answer → List ℕ → List ℕ → Type 0
+Answers end a buffer after =
+    let held = codes (states_in end.active) in
+    (a ≡ record { codes = length held; notes = end.notes }) × (after ≡ laid held buffer)
+
 abbrev pub Handed : Progress → Queue → Answered → List ℕ → List ℕ → Type 0
 Handed end queue r buffer after =
     let held = codes (states_in end.active) in

@@ -53,32 +53,28 @@ impl State {
 }
 
 // Something else waits.
-pub(crate) fn with_waiting(begun: &Progress, waiting: Option<WaitingState>) -> Active
-    ensures { (img : List ℕ) → Moves img begun.now.active result (with_waiting (waiting_of img waiting)) }
+pub(crate) fn with_waiting(progress: &mut Progress, waiting: Option<WaitingState>)
+    ensures moves { (img : List ℕ) → Moves img progress.old.active progress.new.active (with_waiting (waiting_of img waiting)) }
+    ensures notes { progress.new.notes ≡ progress.old.notes }
 {
-    Active {
-        waiting,
-        ..begun.active
-    }
+    progress.active.waiting = waiting;
 }
 
 // A release drops all states of its coordinates and keeps the others' order.
-pub(crate) fn release(begun: &Progress, coord: Coord) -> Active
-    ensures { (img : List ℕ) → Moves img begun.now.active result (λ l. with_states (release_of coord l.states) l) }
+pub(crate) fn release(progress: &mut Progress, coord: Coord)
+    ensures moves { (img : List ℕ) → Moves img progress.old.active progress.new.active (λ l. with_states (release_of coord l.states) l) }
+    ensures notes { progress.new.notes ≡ progress.old.notes }
 {
     let mut states = [State::UNUSED; Layout::STATES];
     let mut len = 0;
-    for state in &begun.active.states[..begun.active.len] {
+    for state in &progress.active.states[..progress.active.len] {
         if coord != state.coord() {
             states[len] = *state;
             len += 1;
         }
     }
-    Active {
-        states,
-        len,
-        ..begun.active
-    }
+    progress.active.states = states;
+    progress.active.len = len;
 }
 
 // The sum of the held Layer numbers, or the default layer if none is held.

@@ -1,11 +1,10 @@
 // What a call hands back: document 01, Layout, the last paragraph, and "Refusal numbers".
 // Assumes nothing.
 ghost use Rattle.std.specs.Prelude.{◌≡◌, ◌≤◌, length};
-ghost use Rattle.layout.specs.Inside.{Handed};
+ghost use Rattle.layout.specs.Inside.{Answers};
 
 use super::active::State;
 use super::layout::Layout;
-use super::line::Line;
 use super::notes::Notes;
 use super::progress::Progress;
 use refusal::Fault;
@@ -24,9 +23,9 @@ pub struct Answered {
 }
 
 // The answer of a call that was not refused: the key codes in state order go to the start of the buffer.
-pub(crate) fn answer_of(end: Progress, line: Line, out: &mut [u8]) -> Answered
+pub(crate) fn answer_of(end: &Progress, out: &mut [u8]) -> Answer
     requires { 64 ≤ length out.old }
-    ensures { Handed end line.queue result out.old out.new }
+    ensures { Answers end.now result out.old out.new }
 {
     let mut codes = 0;
     for state in &end.active.states[..end.active.len] {
@@ -35,14 +34,8 @@ pub(crate) fn answer_of(end: Progress, line: Line, out: &mut [u8]) -> Answered
             codes += 1;
         }
     }
-    Answered {
-        answer: Ok(Answer {
-            codes,
-            notes: end.notes,
-        }),
-        layout: Layout {
-            active: end.active,
-            queue: line.queue,
-        },
+    Answer {
+        codes,
+        notes: end.notes,
     }
 }

@@ -56,8 +56,8 @@ impl Effect {
     ghost use Rattle.layout.specs.Effects.{state_of, Begun, Added, Pushes, Leaves};
 
     // Before an action runs.
-    pub(crate) fn new(begun: &Progress, notes: Notes) -> Effect
-        ensures { Begun begun.now.active notes result }
+    pub(crate) fn new(begun: &Progress) -> Effect
+        ensures { Begun begun.now.active begun.now.notes result }
     {
         Effect {
             default_layer: begun.active.default_layer,
@@ -65,7 +65,7 @@ impl Effect {
             holds: [Holds::Code(0); Layout::STATES],
             added: 0,
             waiting: begun.active.waiting,
-            notes,
+            notes: begun.notes,
         }
     }
 

@@ -11,6 +11,7 @@ use super::accepted::Accepted;
 use super::active::{Active, State};
 use super::answer::{Answer, Answered, answer_of};
 use super::line::Line;
+use super::notes::no_notes;
 use super::progress::Progress;
 use super::queue::{Queue, Stacked};
 use event::Event;
@@ -65,23 +66,27 @@ impl Layout {
     pub fn event(self, image: &[u8], event: Event, out: &mut [u8]) -> Answered
         ensures { handed result out.new ≡ event_reply image.now event self out.old }
     {
-        match judge(image, &self, out.len()) {
-            Err(fault) => Answered {
-                answer: Err(fault),
-                layout: self,
-            },
-            Ok(table) => {
-                let begun = Progress::new(self.active);
-                let line = Line { queue: self.queue };
-                if self.queue.queued < Layout::QUEUE {
-                    let line = line.append(event);
-                    return answer_of(table.tap_released(&begun, &line, event), line, out);
-                }
-                let oldest = self.queue.stacked[0];
-                let line = line.shift().append(event);
-                let next = table.overflow(&begun, &line, oldest);
-                answer_of(table.tap_released(&next, &line, event), line, out)
+        let table = match judge(image, &self, out.len()) {
+            Ok(table) => table,
+            Err(fault) => {
+                return Answered {
+                    answer: Err(fault),
+                    layout: self,
+                };
             }
+        };
+        let mut progress = Progress {
+            active: self.active,
+            notes: no_notes(),
+        };
+        let mut line = Line { queue: self.queue };
+        table.event(&mut progress, &mut line, event);
+        Answered {
+            answer: Ok(answer_of(&progress, out)),
+            layout: Layout {
+                active: progress.active,
+                queue: line.queue,
+            },
         }
     }
 
@@ -89,24 +94,27 @@ impl Layout {
     pub fn tick(self, image: &[u8], out: &mut [u8]) -> Answered
         ensures { handed result out.new ≡ tick_reply image.now self out.old }
     {
-        match judge(image, &self, out.len()) {
-            Err(fault) => Answered {
-                answer: Err(fault),
-                layout: self,
-            },
-            Ok(table) => {
-                let begun = Progress::new(self.active);
-                let line = Line { queue: self.queue }.age();
-                if let Some(w) = self.active.waiting {
-                    return answer_of(table.tick_waiting(&begun, &line, w), line, out);
-                }
-                if line.queue.queued == 0 {
-                    return answer_of(begun, line, out);
-                }
-                let oldest = line.queue.stacked[0];
-                let rest = line.shift();
-                answer_of(table.unstack(&begun, &rest, oldest), rest, out)
+        let table = match judge(image, &self, out.len()) {
+            Ok(table) => table,
+            Err(fault) => {
+                return Answered {
+                    answer: Err(fault),
+                    layout: self,
+                };
             }
+        };
+        let mut progress = Progress {
+            active: self.active,
+            notes: no_notes(),
+        };
+        let mut line = Line { queue: self.queue };
+        table.tick(&mut progress, &mut line);
+        Answered {
+            answer: Ok(answer_of(&progress, out)),
+            layout: Layout {
+                active: progress.active,
+                queue: line.queue,
+            },
         }
     }
 
@@ -115,7 +123,10 @@ impl Layout {
         ensures { shown result self out.new ≡ keycodes_reply image.now self out.old }
     {
         judge(image, &self, out.len())?;
-        let line = Line { queue: self.queue };
-        answer_of(Progress::new(self.active), line, out).answer
+        let progress = Progress {
+            active: self.active,
+            notes: no_notes(),
+        };
+        Ok(answer_of(&progress, out))
     }
 }

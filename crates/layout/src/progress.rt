@@ -4,11 +4,11 @@ ghost use Rattle.layout.specs.Order.{Tidy};
 
 use super::active::Active;
 use super::effect::Effect;
-use super::notes::{Notes, no_notes};
+use super::notes::Notes;
 use event::Coord;
 
 // What a call has changed, and what it has done. Its states are in order, which `judge` has asked of those it begins with.
-#[derive(Clone, Copy)]
+#[derive(Drop)]
 pub(crate) struct Progress {
     pub active: Active,
     pub notes: Notes,
@@ -18,36 +18,18 @@ pub(crate) struct Progress {
 impl Progress {
     ghost use Rattle.std.specs.Prelude.{◌≡◌};
     ghost use Rattle.layout.specs.Effects.{Grown};
-    ghost use Rattle.layout.specs.Notes.{no_notes as none};
 
-    // A call begins with nothing done.
-    pub(crate) fn new(active: Active) -> Progress
-        requires { Tidy active }
-        ensures { (result.active ≡ active) × (result.notes ≡ none) }
+    // An action has run: what was added stands behind the states.
+    pub(crate) fn add_effect(&mut self, effect: &Effect, coord: Coord)
+        requires { effect.now.held ≡ self.old.active.len }
+        ensures { Grown self.old.active effect.now coord self.new }
     {
-        Progress {
-            active,
-            notes: no_notes(),
+        for holds in &effect.holds[..effect.added] {
+            self.active.states[self.active.len] = holds.at(coord);
+            self.active.len += 1;
         }
-    }
-
-    // What a call has come to once an action has run: what was added stands behind the states.
-    pub(crate) fn after_effect(&self, effect: &Effect, coord: Coord) -> Progress
-        requires { effect.now.held ≡ self.now.active.len }
-        ensures { Grown self.now.active effect.now coord result }
-    {
-        let mut states = self.active.states;
-        for k in 0..effect.added {
-            states[effect.held + k] = effect.holds[k].at(coord);
-        }
-        Progress {
-            active: Active {
-                default_layer: effect.default_layer,
-                states,
-                len: effect.held + effect.added,
-                waiting: effect.waiting,
-            },
-            notes: effect.notes,
-        }
+        self.active.default_layer = effect.default_layer;
+        self.active.waiting = effect.waiting;
+        self.notes = effect.notes;
     }
 }

@@ -24,19 +24,19 @@ loop-state-init c = (omega arith, refl, refl)
 
 pub bounds-out-codes : goal.bounds-out-codes
 bounds-out-codes c =
-    let few = length-take c.args.end.active.len c.args.end.active.states in
-    omega (arith, c.loop-state.invariant.0, c.loop-state.auto.out, c.args.end.tidy.few, c.requires)
+    let few = length-take c.args.end.now.active.len c.args.end.now.active.states in
+    omega (arith, c.loop-state.invariant.0, c.loop-state.auto.out, c.args.end.now.tidy.few, c.requires)
 
 pub loop-state-preserved : goal.loop-state-preserved
 loop-state-preserved c =
     let inv = c.loop-state.invariant in
-    let l = take c.args.end.active.len c.args.end.active.states in
-    let few = length-take c.args.end.active.len c.args.end.active.states in
+    let l = take c.args.end.now.active.len c.args.end.now.active.states in
+    let few = length-take c.args.end.now.active.len c.args.end.now.active.states in
     let before = codes (take c.loop-state.state-index l) in
     elim c.match-state.branch [
       | in-NormalKey w ↦
           let more = key_more l c.loop-state.state-index no_state c.loop-state-test.true _ _ w.in-NormalKey.is in
-          let k : c.loop-state.codes < length c.args.out.now = omega (arith, inv.0, c.args.end.tidy.few, c.requires) in (
+          let k : c.loop-state.codes < length c.args.out.now = omega (arith, inv.0, c.args.end.now.tidy.few, c.requires) in (
             omega (arith, inv.0, w.codes-is),
             rw (w.codes-is, more, length-append) (omega (arith, inv.1)),
             rw (w.out-is, more, inv.2) (put before c.args.out.now _ c.loop-state.codes inv.1 k),
@@ -48,7 +48,7 @@ loop-state-preserved c =
 
 pub returns : goal.returns
 returns c =
-    let l = take c.args.end.active.len c.args.end.active.states in
+    let l = take c.args.end.now.active.len c.args.end.now.active.states in
     let all : take c.loop-state.state-index l ≡ l = take_all l c.loop-state.state-index c.loop-state-test.false in
     let inv = rw all at c.loop-state.invariant in
     (rw inv.1, inv.2)

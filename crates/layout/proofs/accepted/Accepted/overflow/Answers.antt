@@ -11,12 +11,12 @@ unfolding overflow
 returns-in_default c =
     let img = c.args.self.now.image.now in
     did_then img (act (table_of img) c.args.oldest.event c.args.oldest.since)
-    (into_none img c.args.begun.now Hold (list_in c.args.line.now.queue) c.in_default.is) c.unstack.ensures
+    (into_none img c.args.progress.now Hold (list_in c.args.line.now.queue) c.in_default.is) c.unstack.ensures
 
 pub returns : goal.returns
 unfolding overflow
 returns c =
     let img = c.args.self.now.image.now in
     did_then img (act (table_of img) c.args.oldest.event c.args.oldest.since)
-    (into_on img c.args.begun.now Hold (list_in c.args.line.now.queue) c.becomes-held.result _ c.in-Some.is c.becomes-held.ensures)
+    (into_on img c.args.progress.now Hold (list_in c.args.line.now.queue) c.becomes.new.progress _ c.in-Some.is c.becomes.ensures)
     c.unstack-2.ensures

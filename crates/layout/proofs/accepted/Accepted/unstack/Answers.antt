@@ -13,32 +13,29 @@ pub returns-in-Release : goal.returns-in-Release
 returns-in-Release c =
     let img = c.args.self.now.image.now in
     let q = list_in c.args.line.now.queue in
-    release_acts img c.args.begun.now.active c.args.begun.now.notes c.note_acted-notes.result _ q c.args.stacked.event _ _ c.args.stacked.since
-    c.note_acted-notes.ensures c.in-Release.is
-    (did_moves img c.args.begun.now.active _ q (c.release.ensures img))
+    release_acts img c.args.progress.now.active c.args.progress.now.notes c.note_acted-progress.result _ q c.args.stacked.event _ _ c.args.stacked.since
+    c.note_acted-progress.ensures c.in-Release.is
+    (did_moves img c.note_acted-progress.result c.args.progress.now.active _ q (c.release.ensures.moves img) c.release.ensures.notes)
 
 pub returns-in_default : goal.returns-in_default
 unfolding do_action tree_in
 returns-in_default c =
     let img = c.args.self.now.image.now in
     let q = list_in c.args.line.now.queue in
-    let notes = c.note_acted-notes.result in
-    press_acts img c.args.begun.now.active c.args.begun.now.notes notes _ q c.args.stacked.event _ _
-    c.args.stacked.since c.note_acted-notes.ensures None c.in-Press.is
+    let notes = c.note_acted-progress.result in
+    press_acts img c.args.progress.now.active c.args.progress.now.notes notes _ q c.args.stacked.event _ _
+    c.args.stacked.since c.note_acted-progress.ensures None c.in-Press.is
     (ap (tree_in img) (sym c.in_default.is) ∙ c.press_as_action.ensures q)
     (did_nothing img _ q)
 
-pub returns : goal.returns
+pub returns-in-Some : goal.returns-in-Some
 unfolding tree_in
-returns c =
+returns-in-Some c =
     let img = c.args.self.now.image.now in
     let q = list_in c.args.line.now.queue in
-    press_acts img c.args.begun.now.active c.args.begun.now.notes c.note_acted-notes.result c.after_effect.result q c.args.stacked.event _ _
-    c.args.stacked.since c.note_acted-notes.ensures (Some _) c.in-Press.is
+    press_acts img c.args.progress.now.active c.args.progress.now.notes c.note_acted-progress.result c.add_effect.new.self q c.args.stacked.event _ _
+    c.args.stacked.since c.note_acted-progress.ensures (Some _) c.in-Press.is
     (ap (tree_in img) (sym c.in-Some.is) ∙ c.press_as_action.ensures q)
     (rw (← c.find_release.ensures)
-    (did_effect img _ c.args.begun.now c.note_acted-notes.result c.after_effect.result _ _
-    c.new-effect.ensures c.do_action.ensures c.after_effect.ensures q))
-
-pub invariant_of-result : goal.invariant_of-result
-invariant_of-result c = record { tidy = (c.release.ensures c.args.self.now.image.now).tidy }
+    (did_effect img _ c.args.progress.now c.note_acted-progress.result c.add_effect.new.self _ _
+    c.new-effect.ensures c.do_action.ensures c.add_effect.ensures q))

@@ -17,5 +17,5 @@ loop-waits-preserved c =
 pub returns : goal.returns
 returns c = (aged c.args.self.now.queue c.loop-waits.waits-items c.loop-waits.waits-index c.args.self.now.lined c.loop-waits-test.false c.loop-waits.invariant).1
 
-pub invariant_of-result : goal.invariant_of-result
-invariant_of-result c = record { lined = (aged c.args.self.now.queue c.loop-waits.waits-items c.loop-waits.waits-index c.args.self.now.lined c.loop-waits-test.false c.loop-waits.invariant).0 }
+pub invariant_of-self : goal.invariant_of-self
+invariant_of-self c = record { lined = (aged c.args.self.now.queue c.loop-waits.waits-items c.loop-waits.waits-index c.args.self.now.lined c.loop-waits-test.false c.loop-waits.invariant).0 }
