@@ -26,7 +26,9 @@ impl Accepted<'_> {
     {
         let i = coord.i as usize;
         let j = coord.j as usize;
-        let n = cell_at(self.image, current_layer(begun), i, j)?;
+        let Some(n) = cell_at(self.image, current_layer(begun), i, j) else {
+            return None;
+        };
         match action_at(self.image, n as usize) {
             Action::Trans => cell_at(self.image, begun.active.default_layer, i, j),
             _ => Some(n),

@@ -3,7 +3,6 @@ use Prim.Native.Nat.{ℕ}
 use mathlib.Core.List.{List}
 use mathlib.Core.Path.{◌≡◌, refl, ap, ◌∙◌}
 use Rattle.std.proofs.Common.{rules}
-use Rattle.std.specs.Prelude.{None}
 use Rattle.image.specs.Tree.{Action, meaning, tree}
 use Rattle.image.specs.Table.{tree_in}
 use Rattle.image.specs.declared.record.Action.{Action as Coded}
@@ -27,12 +26,11 @@ not_trans img n t (code.Layer v) b h = refl
 not_trans img n t (code.DefaultLayer v) b h = refl
 not_trans img n t (code.HoldTap w k p) b h = refl
 
-pub returns-in_err-n : goal.returns-in_err-n
+pub returns-in_default : goal.returns-in_default
 unfolding tree_in
-returns-in_err-n c =
-    let none : c.from_residual.result ≡ None = search rules in
-    λ q. ap (tree_in c.args.self.now.image.now) none ∙ press_outside c.args.self.now.image.now c.args.coord (model_of c.args.self.now.image.now c.args.begun.now.active q) _ _ c.current_layer.ensures
-    c.cell_at.ensures c.in_err-n.was
+returns-in_default c =
+    λ q. press_outside c.args.self.now.image.now c.args.coord (model_of c.args.self.now.image.now c.args.begun.now.active q) _ _ c.current_layer.ensures
+    c.cell_at.ensures (search rules)
 
 pub returns-in-Trans : goal.returns-in-Trans
 unfolding tree_in meaning
@@ -40,13 +38,13 @@ returns-in-Trans c =
     let img = c.args.self.now.image.now in
     let m = tells img _ c.args.self.now.sound c.action_at.ensures c.in-Trans.is in
     λ q. ap (tree_in img) c.cell_at-in-Trans.ensures ∙ press_trans img c.args.coord (model_of img c.args.begun.now.active q) _ _
-    c.current_layer.ensures c.cell_at.ensures _ c.in_ok-n.was m.is
+    c.current_layer.ensures c.cell_at.ensures _ c.in-Some.is m.is
 
-pub returns-in_default : goal.returns-in_default
+pub returns-in_default-action_at : goal.returns-in_default-action_at
 unfolding tree_in
-returns-in_default c =
+returns-in_default-action_at c =
     let img = c.args.self.now.image.now in
     let m = tells img _ {r = c.action_at.result} c.args.self.now.sound c.action_at.ensures refl in
     λ q. press_own img c.args.coord (model_of img c.args.begun.now.active q) _ _ c.current_layer.ensures
-    c.cell_at.ensures _ c.in_ok-n.was
-    (rw m.is (not_trans img _ (tree img) _ _ c.in_default.not-Trans))
+    c.cell_at.ensures _ c.in-Some.is
+    (rw m.is (not_trans img _ (tree img) _ _ c.in_default-action_at.not-Trans))
