@@ -84,18 +84,19 @@ weighed_ok (Ok u) w e = (refl, cc)
 weighed_ok (Err f) w e = (cc, cc)
 
 -- a child that has no children of its own, and one that has, when these are weighed
-pub leaf : (img : List ℕ) (k : ℕ) (it : Child) (before : Weighed) → Parts img k it → it.count ≡ 0 → WithChild img k before (record { weight = before.weight + it.b; opens = before.opens || it.opens })
+pub leaf : (img : List ℕ) (k : ℕ) (it : Child) (before : Weighed) → Parts img k it → it.count ≡ 0 → WithChild img k before (record { weight = before.weight + it.own; opens = before.opens || it.opens })
 leaf img k it before p e =
+    let none = children_end img it.at it.count (omega (arith, e)) in
     record {
-      weighs = omega (arith, p.alone e);
-      opens = ap (λ z. before.opens || z) (opens_end (children_end img it.at it.count (omega (arith, e))).1 p.opens);
+      weighs = omega (arith, p.weighs, none.0);
+      opens = ap (λ z. before.opens || z) (opens_end none.1 p.opens);
     }
 
-pub parent : (img : List ℕ) (k : ℕ) (it : Child) (before s : Weighed) → Parts img k it → (it.count ≡ 0 → ⊥) → s ≡ weighed_of (children_at img it.at it.count)
-    → WithChild img k before (record { weight = before.weight + s.weight; opens = (before.opens || it.opens) || s.opens })
-parent img k it before s p h e =
+pub parent : (img : List ℕ) (k : ℕ) (it : Child) (before s : Weighed) → Parts img k it → s ≡ weighed_of (children_at img it.at it.count)
+    → WithChild img k before (record { weight = before.weight + it.own + s.weight; opens = (before.opens || it.opens) || s.opens })
+parent img k it before s p e =
     record {
-      weighs = omega (arith, ap (λ (s : Weighed). s.weight) e, p.weighs (omega (arith, h)));
+      weighs = omega (arith, ap (λ (s : Weighed). s.weight) e, p.weighs);
       opens = or_assoc before.opens it.opens s.opens ∙ ap (λ z. before.opens || z) (ap (λ (s : Weighed). it.opens || s.opens) e ∙ p.opens);
     }
 
@@ -143,7 +144,7 @@ pair_words img r l n p =
 
 -- a good record by itself and its children: a MultipleActions, a HoldTap, and one that has none
 module _ (img : List ℕ) (r l n : ℕ) (p : Placed img r l) (f : Formed img n) (g : Good img n) where
-  pub many_parts : {first count : ℕ} → field_of img n 0 ≡ 4 → first ≡ field_of img n 2 → count ≡ field_of img n 4 → Parts img n (record { b = count; opens = false; at = l + 2 * first; count = count })
+  pub many_parts : {first count : ℕ} → field_of img n 0 ≡ 4 → first ≡ field_of img n 2 → count ≡ field_of img n 4 → Parts img n (record { own = 0; opens = false; at = l + 2 * first; count = count })
   unfolding action_of list_end children_in meaning weight open?
   many_parts e a b =
       let m : Meant img n (code.MultipleActions (field_of img n 2) (field_of img n 4)) = meant img n g (sym (action_inside img n f.inside)) (rw e) in
@@ -152,20 +153,18 @@ module _ (img : List ℕ) (r l n : ℕ) (p : Placed img r l) (f : Formed img n) 
       rw (a, b)
       (record {
         words = record { inside = omega (arith, m.listed, p.second, p.framed.whole); few = omega (arith, m.listed, p.framed.entries); lower = rw (← w) m.lower };
-        alone = λ h. omega (arith, h, s, (children_end img (l + 2 * field_of img n 2) (field_of img n 4) (omega (arith, h))).0);
-        weighs = λ h. s;
+        weighs = omega (arith, s);
         opens = rw (← w) (sym (ap open? m.is));
       })
 
-  pub pair_parts : (b : ℕ) → field_of img n 0 ≡ 7 → Parts img n (record { b = b; opens = true; at = r + 8 * n + 4; count = 2 })
+  pub pair_parts : field_of img n 0 ≡ 7 → Parts img n (record { own = 0; opens = true; at = r + 8 * n + 4; count = 2 })
   unfolding action_of children_in meaning named weight open?
-  pair_parts b e =
+  pair_parts e =
       let m : Meant img n (code.HoldTap (field_of img n 2) (field_of img n 4) (field_of img n 6)) = meant img n g (sym (action_inside img n f.inside)) (rw e) in
       let w = pair_words img r l n p in
       record {
         words = record { inside = omega (arith, f.inside, p.first, p.framed.whole, p.framed.list_at); few = omega arith; lower = rw w m.lower };
-        alone = λ h. absurd (omega (arith, h));
-        weighs = λ h. rw w (omega (arith, ap weight m.is));
+        weighs = rw w (omega (arith, ap weight m.is));
         opens = sym (ap open? m.is);
       }
 
@@ -197,8 +196,8 @@ plain img n f g h h4 =
     (by_kind (λ x. (weight (meaning img (tree img) n x) ≡ 1 + field_of img n 4) × (open? (meaning img (tree img) n x) ≡ false)) (field_of img n 0) (field_of img n 2) (field_of img n 4) (field_of img n 6)
     none (λ e. none (λ t. absurd (omega arith))) (λ e. none (λ t. absurd (omega arith))) (λ e. (omega (arith, length_entries img (field_of img n 2) (field_of img n 4)), refl)) (λ e. absurd (h4 e)) (λ e. none (λ t. absurd (omega arith))) (λ e. none (λ t. absurd (omega arith))) (λ e. absurd (omega arith)))
 
-pub plain_parts : (img : List ℕ) (n w : ℕ) → Formed img n → Good img n → field_of img n 0 < 7 → (field_of img n 0 ≡ 4 → ⊥) → w ≡ field_of img n 4 → Parts img n (record { b = w; opens = false; at = 0; count = 0 })
+pub plain_parts : (img : List ℕ) (n w : ℕ) → Formed img n → Good img n → field_of img n 0 < 7 → (field_of img n 0 ≡ 4 → ⊥) → w ≡ field_of img n 4 → Parts img n (record { own = w; opens = false; at = 0; count = 0 })
 unfolding words_from named weight open?
 plain_parts img n w f g h h4 e =
     let both = plain img n f g h h4 in
-    record { words = record { inside = omega arith; few = omega arith; lower = refl }; alone = λ z. omega (arith, e, both.0); weighs = λ h. absurd (omega (arith, h)); opens = sym both.1 }
+    record { words = record { inside = omega arith; few = omega arith; lower = refl }; weighs = omega (arith, e, both.0); opens = sym both.1 }

@@ -51,9 +51,8 @@ pub record WithChild (img : List ℕ) (k : ℕ) (before after : Weighed) : Type 
   pub weighs : 1 + after.weight ≡ before.weight + weight (tree img k)
   pub opens : after.opens ≡ (before.opens || open? (tree img k))
 
--- record n is what it is by itself, and its children: without any it weighs 1 and its word b, else 1 and what they weigh
+-- record n is what it is by itself, and its children: it weighs 1, its own weight, and what they weigh
 pub record Parts (img : List ℕ) (n : ℕ) (it : Part) : Type 0 where
   pub words : ChildWords img n it.at it.count
-  pub alone : it.count ≡ 0 → 1 + it.b ≡ weight (tree img n)
-  pub weighs : 0 < it.count → 1 + weights (children_at img it.at it.count) ≡ weight (tree img n)
+  pub weighs : 1 + (it.own + weights (children_at img it.at it.count)) ≡ weight (tree img n)
   pub opens : (it.opens || some_open (children_at img it.at it.count)) ≡ open? (tree img n)

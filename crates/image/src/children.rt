@@ -9,12 +9,12 @@ use super::body::Body;
 use super::words::word;
 use refusal::{Fault, Refusal, rule};
 
-// A record as the one that names it meets it: its word b, whether it is open by itself, and the words that number its own
-// children: so many, from a byte offset. One that has none weighs 1 + b, which counts the codes of a MultipleKeyCodes and is 0
-// in any other.
+// A record as the one that names it meets it: what it weighs more than 1 without its children, whether it is open by itself, and
+// the words that number its own children: so many, from a byte offset. Its own weight is its word b, which counts the codes of a
+// MultipleKeyCodes and is 0 in any other that has no children.
 #[derive(Drop)]
 pub(crate) struct Child {
-    pub b: usize,
+    pub own: usize,
     pub opens: bool,
     pub at: usize,
     pub count: usize,
@@ -51,7 +51,7 @@ impl Body<'_> {
         if kind == 4 {
             let first = self.field(n, 2) as usize;
             return Child {
-                b,
+                own: 0,
                 opens: false,
                 at: self.shape.list_at + 2 * first,
                 count: b,
@@ -59,14 +59,14 @@ impl Body<'_> {
         }
         if kind < 7 {
             return Child {
-                b,
+                own: b,
                 opens: false,
                 at: 0,
                 count: 0,
             };
         }
         Child {
-            b,
+            own: 0,
             opens: true,
             at: self.shape.records_at + 8 * n + 4,
             count: 2,
@@ -82,16 +82,15 @@ impl Body<'_> {
         ensures { WithChild self.now.image.now k before result }
     {
         let it = self.child(k);
+        let weight = before.weight + it.own;
+        let opens = before.opens | it.opens;
         if it.count == 0 {
-            return Weighed {
-                weight: before.weight + it.b,
-                opens: before.opens | it.opens,
-            };
+            return Weighed { weight, opens };
         }
         let under = self.weigh(k, it.at, it.count);
         Weighed {
-            weight: before.weight + under.weight,
-            opens: before.opens | it.opens | under.opens,
+            weight: weight + under.weight,
+            opens: opens | under.opens,
         }
     }
 

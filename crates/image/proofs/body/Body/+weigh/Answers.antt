@@ -30,7 +30,7 @@ with_child-weigh-under-requires t c =
     (omega (arith, c.decreases), (formed_lower _ _ _ c.requires.0 c.requires.1, c.child-it.ensures.words))
 
 pub with_child-returns : goal.with_child-returns
-with_child-returns t c = parent _ _ _ c.args.before _ c.child-it.ensures c.if-it-eq0.false c.weigh-under.ensures
+with_child-returns t c = parent _ _ _ c.args.before _ c.child-it.ensures c.weigh-under.ensures
 
 pub weigh-with_child-sum-requires : goal.weigh-with_child-sum-requires
 weigh-with_child-sum-requires t c =

@@ -17,4 +17,4 @@ returns-then-kind-lt7 c =
 pub returns : goal.returns
 unfolding form_good
 returns c =
-    pair_parts _ _ _ _ (placed c.args.self.now) c.requires.0 c.requires.1 _ (seven _ _ _ _ _ c.requires.0.form (omega (arith, c.if-kind-lt7.false, c.field-kind.ensures)))
+    pair_parts _ _ _ _ (placed c.args.self.now) c.requires.0 c.requires.1 (seven _ _ _ _ _ c.requires.0.form (omega (arith, c.if-kind-lt7.false, c.field-kind.ensures)))
