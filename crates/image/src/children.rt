@@ -9,9 +9,9 @@ use super::body::Body;
 use super::words::word;
 use refusal::{Fault, Refusal, rule};
 
-// A record as the one that names it meets it: what it weighs more than 1 without its children, whether it is open by itself, and
-// the words that number its own children: so many, from a byte offset. Its own weight is its word b, which counts the codes of a
-// MultipleKeyCodes and is 0 in any other that has no children.
+// A record as the one that names it meets it: what it weighs more than 1 without its children, whether it is open by
+// itself, and the words that number its own children: so many, from a byte offset. Its own weight is its word b in a record
+// without children, which counts the codes of a MultipleKeyCodes and is 0 in any other, and is 0 in one with children.
 #[derive(Drop)]
 pub(crate) struct Child {
     pub own: usize,
@@ -73,8 +73,9 @@ impl Body<'_> {
         }
     }
 
-    // What is known of children once record k, which record n names, is among them. It is counted as 1 before, and adds what it
-    // weighs more: by recursion over its own children. One that has none is no call, and this is none either: a turn of a loop.
+    // What is known of children once record k, which record n names, is among them. It is counted as 1 before, and adds
+    // what it weighs more: by recursion over its own children. One that has none is no call, and this is none either: a
+    // turn of a loop.
     #[inline(always)]
     #[cycle(weigh)]
     pub(crate) fn with_child(&self, n: usize, k: usize, before: Weighed) -> Weighed

@@ -43,7 +43,8 @@ Goes img begun first end last step = Did img begun.notes end (list_in last.queue
 abbrev pub PressedTo : List ℕ → Active → Coord → Option ℕ → Type 0
 PressedTo img active c cell = (q : List Queued) → tree_in img cell ≡ pressed (table_of img) c (model_of img active q)
 
--- a queued event is acted on, with its age, also where it left a full queue; what waits becomes tap or hold; and a tick of it
+-- a queued event is acted on, with its age, also where it left a full queue; what waits becomes tap or hold, and a tick
+-- of it
 abbrev pub unstacked : List ℕ → Stacked → Model → Done
 unstacked img s l = act (table_of img) s.event (age_of (queued_of s)) l
 

@@ -1,6 +1,6 @@
-// The steps of a layout: an event and a tick, and what these come to, acting on a queued event and what waits becoming hold or
-// tap. Each changes in place how far the call has come, since a copy of its states costs more than most steps. Document 01,
-// Layout.
+// The steps of a layout: an event and a tick, and what these come to, acting on a queued event and what waits becoming
+// hold or tap. Each changes in place how far the call has come, since a copy of its states costs more than most steps.
+// Document 01, Layout.
 // Assumes nothing.
 ghost use Rattle.std.specs.Prelude.{◌≡◌};
 ghost use Rattle.image.specs.Table.{table_of};

@@ -18,8 +18,8 @@ fn write_piece(stdout: Stdout, text: Text) {
     let _ = write_all(stdout, front(&text.bytes, text.len)); // the rest of the line fails too, and that is told
 }
 
-// Bytes in hex, `-` for none, behind the answer's first word. Every piece but the last is written, and that one handed back: it
-// goes out with its newline in one write, whose failure ends the program.
+// Bytes in hex, `-` for none, behind the answer's first word. Every piece but the last is written, and that one handed
+// back: it goes out with its newline in one write, whose failure ends the program.
 fn put_long(stdout: Stdout, said: Text, bytes: &[u8]) -> Text {
     let (pieces, last) = bytes.split_at(bytes.len().saturating_sub(1) / PIECE * PIECE);
     let mut text = said;

@@ -1,5 +1,5 @@
--- `image::body::Body::with_child` and `image::body::Body::weigh`, which call each other, meet their contracts: of each child what it
--- weighs is known, and each is lower. Assumes nothing.
+-- `image::body::Body::with_child` and `image::body::Body::weigh`, which call each other, meet their contracts: of each
+-- child what it weighs is known, and each is lower. Assumes nothing.
 use Rattle.std.proofs.Common.{ℕ, ◌+◌, ◌-◌, ◌*◌, ◌<◌, ◌≤◌, arith}
 use Rattle.image.proofs.Entries.{words_tail}
 use Rattle.image.proofs.Trees.{formed_lower}

@@ -1,6 +1,6 @@
--- `image::body::Body::with_child` and `image::body::Body::weigh`, which call each other, meet their contracts: the record number
--- falls. The loop's invariant: what was found and what is left come to what all the children do, where each of those left was
--- counted as 1.
+-- `image::body::Body::with_child` and `image::body::Body::weigh`, which call each other, meet their contracts: the record
+-- number falls. The loop's invariant: what was found and what is left come to what all the children do, where each of those
+-- left was counted as 1.
 -- Assumes nothing.
 use Rattle.std.proofs.Common.{◌≡◌, ◌+◌, ◌-◌, ◌*◌, ◌≤◌, true}
 use Rattle.image.proofs.Entries.{words_after}

@@ -1,4 +1,5 @@
--- `image::body::Body::weigh_lower` meets its contract: each turn asks the word reached, and weighs what it numbers. Assumes nothing.
+-- `image::body::Body::weigh_lower` meets its contract: each turn asks the word reached, and weighs what it numbers.
+-- Assumes nothing.
 use Rattle.std.proofs.Common.{◌≡◌, ◌+◌, ◌-◌, ◌*◌, ◌<◌, ◌≤◌, arith, refl}
 use Rattle.std.proofs.lemmas.Result.{err_from_is_err_and}
 use Rattle.refusal.proofs.Verdicts.{rule_broken, rule_kept, rule_yes}

@@ -1,5 +1,6 @@
--- `image::body::Body::weigh_lower` meets its contract. The invariant: all are lower exactly if those from the word reached on are, and
--- what was found and what is left come to what all the children do, where each of those left was counted as 1. Assumes nothing.
+-- `image::body::Body::weigh_lower` meets its contract. The invariant: all are lower exactly if those from the word reached
+-- on are, and what was found and what is left come to what all the children do, where each of those left was counted as 1.
+-- Assumes nothing.
 use Rattle.std.proofs.Common.{◌≡◌, ◌+◌, ◌-◌, ◌*◌, ◌≤◌}
 use Rattle.image.proofs.Entries.{words_after}
 use Rattle.image.proofs.Weights.{children_after}
